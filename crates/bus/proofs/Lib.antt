@@ -1,0 +1,2 @@
+pub mod Names
+mod Pausing

@@ -1,0 +1,3 @@
+mod Cuts
+pub mod Roundtrip
+pub mod Worked

@@ -1,0 +1,7 @@
+pub mod Rows
+pub mod Messages
+pub mod Borrowed
+pub mod Greetings
+pub mod Commands
+pub mod Cases
+pub mod Kept

@@ -1,0 +1,5 @@
+pub mod Holding
+mod Calling
+mod Keeping
+mod Fields
+mod Straight
