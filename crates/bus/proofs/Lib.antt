@@ -1,2 +1,5 @@
 pub mod Names
+pub mod Single
+pub mod Texts
 mod Pausing
+mod Counting

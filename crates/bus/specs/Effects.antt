@@ -32,7 +32,7 @@ opens t (Some g) c = record {
 
 -- absent exactly when the shelf lacks the target; else selected, or lost with no nexus opened
 abbrev pub Selects : Cable → ℕ → List ℕ → Reply → Cable → Type 0
-Selects c t g refused c′ = ⊥
+Selects c t g (refused n) c′ = ⊥
 Selects c t g selected c′ = (is-present (c .shelf) t ≡ true) × (c′ ≡ opens t (greeting-of g) c)
 Selects c t g lost c′ = (is-present (c .shelf) t ≡ true) × (c′ ≡ c)
 Selects c t g absent c′ = (is-present (c .shelf) t ≡ false) × (c′ ≡ c)

@@ -1,7 +1,9 @@
 pub mod Kinds
 pub mod State
+pub mod Single
 pub mod Calls
 pub mod Refusals
 pub mod Effects
 pub mod Showing
 pub mod Rules
+pub mod Counting

@@ -1,10 +1,8 @@
 -- The rules of a bus, call by call. Assumes nothing.
 use Prim.Native.Nat.{ℕ}
 use mathlib.Core.Path.{_≡_}
-use mathlib.Core.Bool.{Bool, true, false}
-use mathlib.Core.List.{List}
-use Rattle.std.specs.declared.option.Option.{Option}
-use Rattle.std.specs.declared.option.Option.the-variants.{Some, None}
+use mathlib.Core.Bool.{true, false}
+use Rattle.std.specs.declared.option.Option.the-variants.{Some}
 use Rattle.bus.specs.declared.Shown.the-variants.{Pause}
 use Rattle.bus.specs.Kinds.{byte-shown}
 use Rattle.bus.specs.State.{Cable, BusState, change, clear, sent, given}
@@ -15,7 +13,7 @@ use Rattle.bus.specs.Showing.{Shows}
 
 -- the byte in a reply
 abbrev pub taken : Reply → ℕ
-taken refused = 0
+taken (refused n) = 0
 taken selected = 0
 taken lost = 0
 taken absent = 0
@@ -39,16 +37,21 @@ pub record In-order (b : BusState) (c : Call) (r : Reply) (b′ : BusState) : Ty
   pub shows : Shows b′
   pub order : b′ .order ≡ true
 
--- every bus refuses exactly where due, changing nothing, and answers the byte shown; one in order keeps the rules
+-- every bus refuses exactly where due, with number 11, changing nothing, and answers the byte shown; one in order keeps the rules
 pub record Did (b : BusState) (c : Call) (r : Reply) (b′ : BusState) : Type 0 where
   pub turned-down : is-refused r ≡ due b c
+  pub number : (n : ℕ) → r ≡ refused n → n ≡ 11
   pub kept : is-refused r ≡ true → b′ ≡ b
   pub byte : (v : ℕ) → c ≡ take → byte-shown (b .shown) ≡ Some v → r ≡ took v
   pub keeps-rules : b .order ≡ true → is-refused r ≡ false → In-order b c r b′
 
--- a bus in order may pause at any time, and go on pausing
+-- the same bus with a pause shown
 abbrev pub pausing : BusState → BusState
 pausing b = record { cable = b .cable; shown = Pause; order = true }
 
-abbrev pub Pausing-is-allowed : Type 0
-Pausing-is-allowed = (b : BusState) → Shows b → In-order b wait done (pausing b)
+pub record Pausing-is-allowed : Type 0 where
+  -- whatever a call did, the bus may pause after it
+  pub after-any-call : (b : BusState) (c : Call) (r : Reply) (b′ : BusState) → In-order b c r b′ → In-order b c r (pausing b′)
+  -- a bus in order that pauses can answer every call by the rules and pause again
+  pub for-ever : (b : BusState) → b .order ≡ true → b .shown ≡ Pause → Shows b → (c : Call)
+      → (r : Reply) × (b′ : BusState) × Did b c r b′ × (b′ .shown ≡ Pause)

@@ -1,7 +1,7 @@
 -- What a bus in order may show. PAUSE may come anywhere. Assumes nothing.
 use Prim.Native.Nat.{ℕ, _+_, _<_}
 use mathlib.Core.Path.{_≡_}
-use mathlib.Core.Bool.{Bool, true}
+use mathlib.Core.Bool.{true}
 use mathlib.Core.List.{List, [], _∷_}
 use Rattle.std.specs.declared.option.Option.{Option}
 use Rattle.std.specs.declared.option.Option.the-variants.{Some, None}
@@ -11,6 +11,12 @@ use Rattle.shelf.specs.Model.{Model, way-of, count-of, byte-of, status-of}
 use Rattle.bus.specs.declared.Shown.{Shown}
 use Rattle.bus.specs.declared.Shown.the-variants.{DataOut, DataIn, Command, Status, Reserved4, Reserved5, MessageOut, MessageIn, Free, Reselect, Pause}
 use Rattle.bus.specs.State.{Name, Nexus, Heard, nothing, named, tag-due, Line, free, retaken, held, Cable, BusState}
+
+-- how data of this way is shown, with the byte of an in command (without a way there is no data, so its pause never comes)
+abbrev pub data-shown : Way → ℕ → Shown
+data-shown Still v = Pause
+data-shown In v = DataIn v
+data-shown Out v = DataOut
 
 ---- a held line with no begun message
 

@@ -7,6 +7,7 @@ ghost use Rattle.bus.specs.Calls.{Call, Reply, selection-or-refused, took-or-r
 ghost use Rattle.bus.specs.Effects.{aborts};
 ghost use Rattle.bus.specs.Showing.{Shows};
 ghost use Rattle.bus.specs.Rules.{Did, Pausing-is-allowed};
+ghost use Rattle.bus.specs.Counting.{Always-counted};
 
 /// What a bus shows: its phase, with the byte or the target that goes with it.
 #[derive(Clone, Copy, PartialEq, Eq, Debug)]
@@ -48,6 +49,13 @@ pub fn is_abort(message: &[u8]) -> bool
 /// A bus that only pauses keeps the rules.
 pub fn pausing_is_allowed() -> u8
     ensures { λ _. ⌜ Pausing-is-allowed ⌝ }
+{
+    0
+}
+
+/// On a bus in order that began at rest, the number of open nexuses is always theirs, and at most sixteen.
+pub fn nexuses_are_counted() -> u8
+    ensures { λ _. ⌜ Always-counted ⌝ }
 {
     0
 }

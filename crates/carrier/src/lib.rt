@@ -1,9 +1,16 @@
 // One command at a time over any bus, by bus calls alone.
-ghost use Prim.Native.Nat.{_≤_};
+ghost use mathlib.Core.Path.{_≡_};
+ghost use mathlib.Core.Bool.{false};
+ghost use mathlib.Core.List.{[]};
+ghost use Prim.Native.Nat.{_%_, _≤_, _<_};
+ghost use Rattle.std.specs.declared.result.Result.the-variants.{Err};
 ghost use Rattle.std.specs.Vec.{made};
-ghost use Rattle.carrier.specs.Buffers.{Kept-from};
+ghost use Rattle.shelf.specs.Model.{Model};
+ghost use Rattle.bus.specs.State.{Name, At-rest};
+ghost use Rattle.carrier.specs.Carrying.{Kept-from, Carries};
+ghost use Rattle.carrier.specs.Underway.{Going, Turned, Ends, begun};
+ghost use Rattle.std.specs.declared.option.Option.the-variants.{None};
 use bus::Bus;
-use bus::Refusal;
 use bus::Selection;
 use bus::Shown;
 use bus::ShownDebug;
@@ -23,6 +30,8 @@ pub struct Carried {
 /// Why a command did not run to its end.
 #[derive(Clone, Copy, PartialEq, Eq, Debug)]
 pub enum Trouble {
+    /// A LUN is 0 to 7.
+    NoSuchLun,
     /// The target is not there.
     Absent,
     /// The selection was lost.
@@ -42,6 +51,7 @@ pub enum Trouble {
 pub impl fmt::Display for Trouble as TroubleDisplay {
     fn fmt<W: fmt::Write>(&self, f: &mut fmt::Formatter<W>) -> fmt::Result {
         let text = match self {
+            Trouble::NoSuchLun => "a LUN is 0 to 7",
             Trouble::Absent => "the target is not there",
             Trouble::Lost => "the selection was lost",
             Trouble::Refused => "the bus refused a call",
@@ -56,14 +66,6 @@ pub impl fmt::Display for Trouble as TroubleDisplay {
 
 pub impl Error for Trouble as TroubleError {}
 
-pub impl From<Refusal> for Trouble as TroubleFromRefusal {
-    fn from(refusal: Refusal) -> Trouble {
-        match refusal {
-            Refusal::Misfit => Trouble::Refused,
-        }
-    }
-}
-
 // A command underway: the status once it came, the data bytes moved, and whether it is complete.
 #[derive(Clone, Copy)]
 struct Underway {
@@ -72,12 +74,43 @@ struct Underway {
     complete: bool,
 }
 
+const COMMAND_COMPLETE: u8 = 0x00;
+
 // The bus is asked at most so often for one command.
 const TURNS: u32 = 1_000_000;
 
-/// Carries one command of a unit from selection to COMMAND COMPLETE, without leave to disconnect. Out bytes are given
-/// from `out`, in bytes put into `into`; in trouble the bus is reset, so that the line is free again.
-pub fn carry<B: Bus>(
+/// Carries one command of a unit from selection to COMMAND COMPLETE, without leave to disconnect; data bytes are given from
+/// `out`. In trouble the bus is reset, so that the line is free again; a LUN above 7 is refused before any call on it.
+pub fn carry_out<B: Bus>(
+    bus: &mut B,
+    target: u8,
+    lun: u8,
+    command: &[u8],
+    out: &[u8],
+) -> Result<Carried, Trouble>
+    ensures lun { λ r. ⌜ (7 < lun → (r ≡ Err Trouble.NoSuchLun) × (now (bus .exit) ≡ now (bus .entry))) ⌝ }
+    ensures carries { λ r. ⌜ (At-rest (B·Bus .means (now (bus .entry))) → Carries (B·Bus .means (now (bus .entry))) target lun (now (command .entry)) (now (out .entry)) r [] (B·Bus .means (now (bus .exit)))) ⌝ }
+{
+    carry(bus, target, lun, command, out, &mut [])
+}
+
+/// The same for a command whose data comes in; it is put into `into`, which keeps what it held past the data.
+pub fn carry_in<B: Bus>(
+    bus: &mut B,
+    target: u8,
+    lun: u8,
+    command: &[u8],
+    into: &mut [u8],
+) -> Result<Carried, Trouble>
+    ensures kept { λ r. ⌜ made r (λ c. Kept-from (c .moved) (now (into .entry)) (now (into .exit))) ⌝ }
+    ensures lun { λ r. ⌜ (7 < lun → (r ≡ Err Trouble.NoSuchLun) × (now (bus .exit) ≡ now (bus .entry)) × (now (into .exit) ≡ now (into .entry))) ⌝ }
+    ensures carries { λ r. ⌜ (At-rest (B·Bus .means (now (bus .entry))) → Carries (B·Bus .means (now (bus .entry))) target lun (now (command .entry)) [] r (now (into .exit)) (B·Bus .means (now (bus .exit)))) ⌝ }
+{
+    carry(bus, target, lun, command, &[], into)
+}
+
+// Carries a command whose data may go either way.
+fn carry<B: Bus>(
     bus: &mut B,
     target: u8,
     lun: u8,
@@ -85,15 +118,23 @@ pub fn carry<B: Bus>(
     out: &[u8],
     into: &mut [u8],
 ) -> Result<Carried, Trouble>
-    ensures { λ r. ⌜ made r (λ c. Kept-from (c .moved) (now (into .entry)) (now (into .exit))) ⌝ }
+    ensures kept { λ r. ⌜ made r (λ c. Kept-from (c .moved) (now (into .entry)) (now (into .exit))) ⌝ }
+    ensures lun { λ r. ⌜ (7 < lun → (r ≡ Err Trouble.NoSuchLun) × (now (bus .exit) ≡ now (bus .entry)) × (now (into .exit) ≡ now (into .entry))) ⌝ }
+    ensures carries { λ r. ⌜ (At-rest (B·Bus .means (now (bus .entry))) → Carries (B·Bus .means (now (bus .entry))) target lun (now (command .entry)) (now (out .entry)) r (now (into .exit)) (B·Bus .means (now (bus .exit)))) ⌝ }
 {
-    let carried = run(bus, target, lun, command, out, into);
-    if carried.is_err() {
-        bus.reset();
+    if lun > 7 {
+        return Err(Trouble::NoSuchLun);
     }
-    carried
+    match run(bus, target, lun, command, out, into) {
+        Ok(carried) => Ok(carried),
+        Err(trouble) => {
+            bus.reset();
+            Err(trouble)
+        }
+    }
 }
 
+// Selects the unit, and drives the command to its end.
 fn run<B: Bus>(
     bus: &mut B,
     target: u8,
@@ -102,25 +143,42 @@ fn run<B: Bus>(
     out: &[u8],
     into: &mut [u8],
 ) -> Result<Carried, Trouble>
-    ensures { λ r. ⌜ made r (λ c. Kept-from (c .moved) (now (into .entry)) (now (into .exit))) ⌝ }
+    ensures kept { λ r. ⌜ made r (λ c. Kept-from (c .moved) (now (into .entry)) (now (into .exit))) ⌝ }
+    ensures ends { λ r. ⌜ (At-rest (B·Bus .means (now (bus .entry))) → Ends (B·Bus .means (now (bus .entry)) .cable .shelf) (record { target = target; lun = lun % 8; tag = None }) (now (command .entry)) (now (out .entry)) r (now (into .exit)) (B·Bus .means (now (bus .exit)))) ⌝ }
 {
     let greeting = Greeting {
         lun,
         leave: false,
         tag: None,
     };
-    match bus.select(target, greeting.bytes().as_slice())? {
-        Selection::Selected => {}
-        Selection::Lost => return Err(Trouble::Lost),
-        Selection::Absent => return Err(Trouble::Absent),
+    match bus.select(target, greeting.bytes().as_slice()) {
+        Ok(Selection::Selected) => drive(bus, command, out, into),
+        Ok(Selection::Lost) => Err(Trouble::Lost),
+        Ok(Selection::Absent) => Err(Trouble::Absent),
+        Err(_) => Err(Trouble::Refused),
     }
+}
+
+// Drives the command of the nexus that holds the line to its end.
+fn drive<B: Bus>(
+    bus: &mut B,
+    command: &[u8],
+    out: &[u8],
+    into: &mut [u8],
+) -> Result<Carried, Trouble>
+    ensures kept { λ r. ⌜ made r (λ c. Kept-from (c .moved) (now (into .entry)) (now (into .exit))) ⌝ }
+    ensures ends { λ r. ⌜ ((m : Model) (n : Name) → Going m n (now (command .entry)) (now (out .entry)) begun (now (into .entry)) (B·Bus .means (now (bus .entry))) → Ends m n (now (command .entry)) (now (out .entry)) r (now (into .exit)) (B·Bus .means (now (bus .exit)))) ⌝ }
+{
     let mut so_far = Underway {
         status: 0,
         moved: 0,
         complete: false,
     };
     for _ in 0..TURNS {
-        so_far = turn(bus, so_far, command, out, into)?;
+        so_far = match turn(bus, so_far, command, out, into) {
+            Ok(further) => further,
+            Err(trouble) => return Err(trouble),
+        };
         if so_far.complete {
             return Ok(Carried {
                 status: so_far.status,
@@ -134,35 +192,67 @@ fn run<B: Bus>(
 // Looks once, and does what the bus shows.
 fn turn<B: Bus>(
     bus: &mut B,
-    mut so_far: Underway,
+    so_far: Underway,
     command: &[u8],
     out: &[u8],
     into: &mut [u8],
 ) -> Result<Underway, Trouble>
     ensures further { λ r. ⌜ made r (λ u. «so_far» .moved ≤ u .moved) ⌝ }
     ensures kept { λ r. ⌜ made r (λ u. Kept-from (u .moved) (now (into .entry)) (now (into .exit))) ⌝ }
+    ensures goes { λ r. ⌜ ((m : Model) (n : Name) → «so_far» .complete ≡ false → Going m n (now (command .entry)) (now (out .entry)) «so_far» (now (into .entry)) (B·Bus .means (now (bus .entry))) → Turned m n (now (command .entry)) (now (out .entry)) r (now (into .exit)) (B·Bus .means (now (bus .exit)))) ⌝ }
 {
     match bus.look() {
-        Shown::Command => bus.command(command)?,
+        Shown::Command => match bus.command(command) {
+            Ok(()) => Ok(so_far),
+            Err(_) => Err(Trouble::Refused),
+        },
         Shown::DataOut => {
-            let byte = *out.get(so_far.moved).ok_or(Trouble::OutOfData)?;
-            bus.give(byte)?;
-            so_far.moved += 1;
+            if so_far.moved >= out.len() {
+                return Err(Trouble::OutOfData);
+            }
+            match bus.give(out[so_far.moved]) {
+                Ok(()) => Ok(Underway {
+                    moved: so_far.moved + 1,
+                    ..so_far
+                }),
+                Err(_) => Err(Trouble::Refused),
+            }
         }
         Shown::DataIn(_) => {
             if so_far.moved >= into.len() {
                 return Err(Trouble::OutOfSpace);
             }
-            into[so_far.moved] = bus.take()?;
-            so_far.moved += 1;
+            match bus.take() {
+                Ok(byte) => {
+                    into[so_far.moved] = byte;
+                    Ok(Underway {
+                        moved: so_far.moved + 1,
+                        ..so_far
+                    })
+                }
+                Err(_) => Err(Trouble::Refused),
+            }
         }
-        Shown::Status(_) => so_far.status = bus.take()?,
-        Shown::MessageIn(0x00) => {
-            bus.take()?;
-            so_far.complete = true;
+        Shown::Status(_) => match bus.take() {
+            Ok(status) => Ok(Underway { status, ..so_far }),
+            Err(_) => Err(Trouble::Refused),
+        },
+        Shown::MessageIn(message) => {
+            if message != COMMAND_COMPLETE {
+                return Err(Trouble::Unexpected(Shown::MessageIn(message)));
+            }
+            match bus.take() {
+                Ok(_) => Ok(Underway {
+                    complete: true,
+                    ..so_far
+                }),
+                Err(_) => Err(Trouble::Refused),
+            }
         }
-        Shown::Pause => bus.wait(),
-        other => return Err(Trouble::Unexpected(other)),
+        Shown::Pause => {
+            bus.wait();
+            Ok(so_far)
+        }
+        other => Err(Trouble::Unexpected(other)),
     }
-    Ok(so_far)
 }

@@ -1,7 +1,11 @@
-// Prints a strip over one cable: writes it to a disk block by block, reads it back, compares it, and prints it on film.
+// Prints a strip over one cable: writes it to a disk block by block, reads it back, compares it, and prints it on film;
+// first over a strict bus, then over a whim bus, on which commands are interrupted, let go and resumed.
+mod interrupted;
+
 use bus::Bus;
 use carrier::TroubleError;
-use carrier::carry;
+use carrier::carry_in;
+use carrier::carry_out;
 use devices::Disk;
 use devices::DiskShelf;
 use devices::MakeErrorError;
@@ -16,6 +20,8 @@ use strip::Order;
 use strip::OrderDisplay;
 use strip::adler32;
 use strip::draw;
+use whim_bus::WhimBus;
+use whim_bus::WhimBusBus;
 
 const DISK: u8 = 0;
 
@@ -29,11 +35,19 @@ const STRIP: usize = 4096;
 
 const PRINT: usize = 2048;
 
+const SHORT: usize = 1024;
+
 fn main(rt: LibcRuntime) -> Result<(), AnyError> {
     rt.report(run(&rt))
 }
 
 fn run(rt: &LibcRuntime) -> Result<(), AnyError> {
+    straight(rt)?;
+    whimsical(rt)
+}
+
+// The strip over a strict bus.
+fn straight(rt: &LibcRuntime) -> Result<(), AnyError> {
     let mut bus = StrictBus::new(Pair {
         first: Disk::new(rt.alloc(), DISK, 64)?,
         second: Recorder::new(rt.alloc(), RECORDER, 8192)?,
@@ -57,6 +71,59 @@ fn run(rt: &LibcRuntime) -> Result<(), AnyError> {
         adler32(film)
     )?;
     Ok(())
+}
+
+// A short strip over a whim bus.
+fn whimsical(rt: &LibcRuntime) -> Result<(), AnyError> {
+    let mut bus = WhimBus::new(
+        Pair {
+            first: Disk::new(rt.alloc(), DISK, 64)?,
+            second: Recorder::new(rt.alloc(), RECORDER, 8192)?,
+        },
+        whims(),
+    );
+    let mut drawn = [0; SHORT];
+    draw(&mut drawn);
+    println!(
+        rt,
+        "strip over the whim bus: {SHORT} bytes, Adler-32 {:08x}",
+        adler32(&drawn)
+    )?;
+    let mut copy = [0; SHORT];
+    for (block, bytes) in (0..2u32).zip(drawn.chunks_exact(BLOCK)) {
+        interrupted::ask(rt, &mut bus, DISK, Order::Write(block), bytes, &mut [])?;
+    }
+    for (block, bytes) in (0..2u32).zip(copy.chunks_exact_mut(BLOCK)) {
+        interrupted::ask(rt, &mut bus, DISK, Order::Read(block), &[], bytes)?;
+    }
+    if copy != drawn {
+        return Err("the strip came back changed".into());
+    }
+    println!(rt, "compared: the strip came back as it was written")?;
+    interrupted::ask(rt, &mut bus, RECORDER, Order::Print(1024), &copy, &mut [])?;
+    let film = bus.shelf().second.film();
+    println!(
+        rt,
+        "film: {} bytes, Adler-32 {:08x}",
+        film.len(),
+        adler32(film)
+    )?;
+    Ok(())
+}
+
+// Whim bytes that let most data through, and now and then save, go back, let go and come back.
+fn whims() -> [u8; 256] {
+    let mut whims = [0; 256];
+    whims[5] = 1;
+    whims[60] = 1;
+    whims[61] = 3;
+    whims[64] = 1;
+    whims[130] = 2;
+    whims[180] = 3;
+    whims[183] = 1;
+    whims[200] = 1;
+    whims[240] = 2;
+    whims
 }
 
 fn store<B: Bus>(rt: &LibcRuntime, bus: &mut B, strip: &[u8]) -> Result<(), AnyError> {
@@ -90,7 +157,10 @@ fn ask<B: Bus>(
     into: &mut [u8],
 ) -> Result<(), AnyError> {
     let command = order.bytes();
-    let carried = carry(bus, target, 0, &command, out, into)?;
+    let carried = match order {
+        Order::Read(_) => carry_in(bus, target, 0, &command, into)?,
+        Order::Write(_) | Order::Print(_) => carry_out(bus, target, 0, &command, out)?,
+    };
     let moved = carried.moved;
     let status = carried.status;
     let [a, b, c, d, e, f] = command;

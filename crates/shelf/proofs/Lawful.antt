@@ -1,11 +1,11 @@
 -- The laws that hold by the form of a shelf's meaning, for every shelf. Assumes nothing.
 use Prim.Native.Nat.{ℕ}
-use mathlib.Core.Path.{_≡_, refl, ap, ap₂}
-use mathlib.Core.Bool.{Bool, true, false, cond, _&&_}
+use mathlib.Core.Path.{_≡_, refl, ap₂}
+use mathlib.Core.Bool.{Bool, false, cond, _&&_}
 use mathlib.Core.List.{List}
 use lib.Dec.{eqb}
 use Rattle.shelf.specs.Model.{Kind, Model}
-use Rattle.shelf.specs.Laws.{Owed, Alike, Laws}
+use Rattle.shelf.specs.Laws.{Owed, Laws}
 
 -- each law of a shelf, where its way of answering keeps what it owes
 pub lawful : (m : Model) → Owed (m .kind) → Laws m

@@ -1,11 +1,10 @@
 -- The laws that every shelf shows. Assumes nothing.
 use Prim.Native.Nat.{ℕ, _≤_}
 use mathlib.Core.Path.{_≡_}
-use mathlib.Core.Bool.{Bool, false, _&&_}
+use mathlib.Core.Bool.{false, _&&_}
 use mathlib.Core.List.{List}
 use lib.Dec.{eqb}
-use Rattle.shelf.specs.declared.Way.{Way}
-use Rattle.shelf.specs.declared.Way.the-variants.{Still, In, Out}
+use Rattle.shelf.specs.declared.Way.the-variants.{Still, Out}
 use Rattle.shelf.specs.Model.{Kind, Model, is-present, way-of, count-of, byte-of, status-of, finished}
 
 -- what a way of answering owes

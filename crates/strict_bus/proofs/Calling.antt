@@ -1,18 +1,14 @@
 -- Bytes given to and taken from a strict bus. Assumes nothing.
 use Prim.Native.Nat.{ℕ}
 use mathlib.Core.Path.{_≡_, refl, sym, ap, subst, _∙_}
-use mathlib.Core.Bool.{true}
 use Rattle.shelf.specs.Model.{Model}
 use Rattle.bus.specs.declared.Shown.{Shown}
 use Rattle.bus.specs.declared.Shown.the-variants.{DataOut, DataIn, Status}
-use Rattle.bus.specs.State.{Name, Nexus, BusState, moved, given, ended}
+use Rattle.bus.specs.State.{Name, Nexus, moved, given, ended}
 use Rattle.bus.specs.Calls.{give, take, done, took}
-use Rattle.strict_bus.specs.Text.{holding, strict, Strictly}
-use Rattle.strict_bus.proofs.Holding.{state, is-strict, changed}
-
--- the nexus holds the line, and this is shown
-abbrev pub showing : Model → Name → Nexus → Shown → BusState
-showing m n x s = record { cable = holding m n x; shown = s; order = true }
+use Rattle.strict_bus.specs.Text.{strict, Strictly}
+use Rattle.bus.proofs.Single.{changed, showing}
+use Rattle.strict_bus.proofs.Holding.{state, is-strict}
 
 pub gave : (m : Model) (n : Name) (x : Nexus) (v : ℕ) (s : Shown) → s ≡ DataOut → Strictly (showing m n x s) (give v) done (state m n (given v x))
 gave m n x v s e =

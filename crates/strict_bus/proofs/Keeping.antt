@@ -1,8 +1,8 @@
 -- A strict bus keeps the rules of a bus. Assumes nothing.
-use Prim.Native.Nat.{ℕ, _<_}
+use Prim.Native.Nat.{ℕ}
 use mathlib.Core.Path.{_≡_, refl, sym, ap, subst, _∙_}
 use mathlib.Core.Bool.{Bool, true, false, cond, not, false≢true}
-use mathlib.Core.List.{List, [], _∷_}
+use mathlib.Core.List.{List}
 use native.Mathlib.Omega.{arith}
 use lib.Dec.{eqb, ltb}
 use Rattle.std.specs.declared.option.Option.{Option}
@@ -13,17 +13,17 @@ use Rattle.scsi.specs.Greetings.{greeting-of}
 use Rattle.shelf.specs.declared.Way.{Way}
 use Rattle.shelf.specs.declared.Way.the-variants.{Still, In, Out}
 use Rattle.shelf.specs.Model.{Model, is-present, way-of, count-of, byte-of, status-of}
-use Rattle.bus.specs.declared.Shown.{Shown}
-use Rattle.bus.specs.declared.Shown.the-variants.{DataOut, DataIn, Command, Status, MessageIn, Free, Pause}
+use Rattle.bus.specs.declared.Shown.the-variants.{Status, Pause}
 use Rattle.bus.specs.Kinds.{byte-shown, target-shown}
 use Rattle.bus.specs.State.{Name, Nexus, Heard, Line, free, retaken, held, Cable, BusState, put}
-use Rattle.bus.specs.Calls.{Call, select, accept, command, give, take, speak, wait, reset, Reply, refused, selected, lost, absent, done, took, is-refused}
+use Rattle.bus.specs.Calls.{Call, select, accept, command, give, take, speak, wait, reset, Reply, refused, selected, absent, is-refused, took-shown}
 use Rattle.bus.specs.Refusals.{due}
 use Rattle.bus.specs.Effects.{Selects, Takes, retakes, opens, on-holder}
-use Rattle.bus.specs.Showing.{Shows, May-show, Message-by, No-reader}
-use Rattle.bus.specs.Rules.{Rule, In-order, Did, taken}
+use Rattle.bus.specs.Showing.{Shows, May-show, Message-by, No-reader, data-shown}
+use Rattle.bus.specs.Rules.{Rule, Did, taken}
 use Rattle.bus.proofs.Names.{put-here, put-only}
-use Rattle.strict_bus.specs.Text.{resting, holding, data-shown, underway, by-status, by-command, strict, granted, does, took-shown, takes-shown, Strictly}
+use Rattle.bus.proofs.Texts.{turned-down, granted-by, took-it}
+use Rattle.strict_bus.specs.Text.{underway, by-status, by-command, strict, granted, does, takes-shown, Strictly}
 use Rattle.strict_bus.proofs.Holding.{state}
 
 ---- what is shown
@@ -92,15 +92,11 @@ rule b (speak m) s h = refl
 rule b wait s h = refl
 rule b reset s h = refl
 
--- what is allowed is not refused
-took-it : (o : Option ℕ) → not (isSome o) ≡ false → is-refused (took-shown o) ≡ false
-took-it None h = absurd (false≢true (sym h))
-took-it (Some v) h = refl
-
 found-it : (p : Bool) → is-refused (cond p selected absent) ≡ false
 found-it true = refl
 found-it false = refl
 
+-- what is allowed is not refused
 not-refused : (b : BusState) (c : Call) → due b c ≡ false → is-refused (granted b c) ≡ false
 not-refused b (select t g) h = found-it (is-present (b .cable .shelf) t)
 not-refused b accept h = refl
@@ -115,23 +111,13 @@ not-refused b reset h = refl
 pub keeps : (b : BusState) (c : Call) (r : Reply) (b′ : BusState) → Settled b → Strictly b c r b′ → Shows b′ → b′ .order ≡ true → Did b c r b′
 keeps b c r b′ s did shows order = go (due b c) refl (did .answer) (did .after)
   where
-    go : (t : Bool) → due b c ≡ t → r ≡ cond t refused (granted b c) → b′ ≡ cond t b (strict (does b c)) → Did b c r b′
-    go true d a e =
-        record {
-          turned-down = ap is-refused a ∙ sym d;
-          kept = λ h. e;
-          byte = λ v is-take byte. absurd (false≢true (sym (ap (due b) is-take ∙ ap (λ (o : Option ℕ). not (isSome o)) byte) ∙ d));
-          keeps-rules = λ o h. absurd (false≢true (sym h ∙ ap is-refused a));
-        }
+    go : (t : Bool) → due b c ≡ t → r ≡ cond t (refused 11) (granted b c) → b′ ≡ cond t b (strict (does b c)) → Did b c r b′
+    go true d a e = turned-down b c r b′ d a e
     go false d a e =
+        granted-by b c r b′ d (ap is-refused a ∙ not-refused b c d) (λ v is-take byte. a ∙ ap (granted b) is-take ∙ ap took-shown byte)
+        (λ o.
         record {
-          turned-down = ap is-refused a ∙ not-refused b c d ∙ sym d;
-          kept = λ h. absurd (false≢true (sym (ap is-refused a ∙ not-refused b c d) ∙ h));
-          byte = λ v is-take byte. a ∙ ap (granted b) is-take ∙ ap took-shown byte;
-          keeps-rules = λ o h.
-              record {
-                rule = subst (λ (q : Reply). Rule b c q (b′ .cable)) (sym a) (subst (λ (x : BusState). Rule b c (granted b c) (x .cable)) (sym e) (rule b c s d));
-                shows = shows;
-                order = order;
-              };
-        }
+          rule = subst (λ (q : Reply). Rule b c q (b′ .cable)) (sym a) (subst (λ (x : BusState). Rule b c (granted b c) (x .cable)) (sym e) (rule b c s d));
+          shows = shows;
+          order = order;
+        })

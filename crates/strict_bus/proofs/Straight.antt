@@ -1,6 +1,6 @@
--- A strict bus never pauses, and never lets go. Assumes nothing.
+-- A strict bus shows nothing between, and never lets go. Assumes nothing.
 use Prim.Native.Nat.{ℕ, _≤_, _<_}
-use mathlib.Core.Path.{_≡_, refl, sym, subst, _∙_}
+use mathlib.Core.Path.{_≡_, refl, sym, ap, subst, _∙_}
 use mathlib.Core.Bool.{Bool, true, false, cond, not, false≢true}
 use mathlib.Core.List.{List, [], _∷_}
 use native.Mathlib.Omega.{arith}
@@ -17,13 +17,17 @@ use Rattle.shelf.specs.Laws.{Laws}
 use Rattle.shelf.proofs.Lawful.{lawful}
 use Rattle.bus.specs.declared.Shown.{Shown}
 use Rattle.bus.specs.declared.Shown.the-variants.{DataOut, DataIn, Command, Status, MessageIn, Pause}
-use Rattle.bus.specs.Kinds.{kind-of, shows-free}
-use Rattle.bus.specs.State.{Name, Nexus, free, held, Cable, BusState, change, sent, given, moved, ended, fresh-nexus}
-use Rattle.bus.specs.Calls.{Call, select, accept, command, give, take, speak, wait, reset, Reply}
+use Rattle.bus.specs.Kinds.{byte-shown, shows-free}
+use Rattle.bus.specs.State.{Name, Nexus, held, Cable, same-name, BusState, change, sent, given, moved, ended, fresh-nexus}
+use Rattle.bus.specs.Calls.{Call, select, accept, command, give, take, speak, wait, reset, Reply, refused, selected, lost, absent, took-shown}
 use Rattle.bus.specs.Refusals.{due, name-of, greeting-refused}
 use Rattle.bus.specs.Effects.{opens, ends-line, aborts, finishes}
-use Rattle.strict_bus.specs.Text.{resting, holding, data-shown, underway, by-status, by-command, strict, does, Strictly, Called, at-last, Calls-on, Straight-through}
-use Rattle.strict_bus.proofs.Holding.{state, is-strict, changed, closed, completed}
+use Rattle.bus.specs.Showing.{data-shown}
+use Rattle.bus.proofs.Names.{same-name-is}
+use Rattle.bus.specs.Single.{resting, holding}
+use Rattle.strict_bus.specs.Text.{underway, by-status, by-command, strict, granted, does, Strictly, Called, at-last, Calls-on, Plain, Straight-through}
+use Rattle.bus.proofs.Single.{changed, closed, completed, showing}
+use Rattle.strict_bus.proofs.Holding.{state, is-strict}
 
 -- the place of a nexus before and after its command is sent
 abbrev Placed : Model → Name → Nexus → Option (List ℕ) → Type 0
@@ -95,9 +99,6 @@ meets m l n x p = by (x .command) refl p
     by None c p = fresh (p .0)
     by (Some d) c p = ending d c (x .status) p
 
-abbrev showing : Model → Name → Nexus → Shown → BusState
-showing m n x s = record { cable = holding m n x; shown = s; order = true }
-
 to : (m : Model) → Laws m → (n : Name) (x : Nexus) (f : Nexus → Nexus) → Placed m n (f x) (f x .command) → Straight (strict (change n f (holding m n x)))
 to m l n x f p = subst (λ (c : Cable). Straight (strict c)) (sym (changed m n x f)) (held-strict m l n (f x) p)
 
@@ -160,36 +161,66 @@ on-hold m l n x p s q reset h = rests m l
 one-call : (b : BusState) → Straight b → (c : Call) (r : Reply) (b′ : BusState) → Strictly b c r b′ → Straight b′
 one-call b h c r b′ did = go (due b c) refl (did .after)
   where
-    granted : (b : BusState) → Straight b → due b c ≡ false → Straight (strict (does b c))
-    granted b (rests m l) d = on-rest m l c
-    granted b (holds m l n x p) d = on-hold m l n x p _ (meets m l n x p) c d
+    allowed : (b : BusState) → Straight b → due b c ≡ false → Straight (strict (does b c))
+    allowed b (rests m l) d = on-rest m l c
+    allowed b (holds m l n x p) d = on-hold m l n x p _ (meets m l n x p) c d
 
     go : (t : Bool) → due b c ≡ t → b′ ≡ cond t b (strict (does b c)) → Straight b′
     go true d e = subst Straight (sym e) h
-    go false d e = subst Straight (sym e) (granted b h d)
+    go false d e = subst Straight (sym e) (allowed b h d)
 
 all-calls : (b : BusState) → Straight b → (cs : List Called) → Calls-on b cs → Straight (at-last b cs)
 all-calls b h [] u = h
 all-calls b h (c ∷ cs) u = one-call (at-last b cs) (all-calls b h cs (u .0)) (c .call) (c .reply) (c .after) (u .1)
 
-goes-on : (m : Model) (n : Name) (x : Nexus) (s : Shown) → Meets m n x s → kind-of s ≡ 10 → ⊥
-goes-on m n x s (fresh p) e = omega arith
-goes-on m n x s (going d c u (asked k)) e = omega arith
-goes-on m n x s (going d c u (offered v k)) e = omega arith
-goes-on m n x s (going d c u (told v)) e = omega arith
-goes-on m n x s over e = omega arith
+plain : (m : Model) (n : Name) (x : Nexus) (s : Shown) → Meets m n x s → Plain s
+plain m n x s (fresh p) = tt
+plain m n x s (going d c u (asked k)) = tt
+plain m n x s (going d c u (offered v k)) = tt
+plain m n x s (going d c u (told v)) = tt
+plain m n x s over = refl
 
-no-pause : (b : BusState) → Straight b → kind-of (b .shown) ≡ 10 → ⊥
-no-pause b (rests m l) e = omega arith
-no-pause b (holds m l n x p) e = goes-on m n x _ (meets m l n x p) e
+shows-plain : (b : BusState) → Straight b → Plain (b .shown)
+shows-plain b (rests m l) = tt
+shows-plain b (holds m l n x p) = plain m n x _ (meets m l n x p)
 
-no-leave : (b : BusState) → Straight b → b .cable .line ≡ free → (n : Name) → b .cable .nexuses n ≡ None
-no-leave b (rests m l) e n = refl
-no-leave b (holds m l k x p) e n = let z : _≡_ {A = ℕ} 0 1 = cc in absurd (omega arith)
+not-lost : (b : BusState) (c : Call) → granted b c ≡ lost → ⊥
+not-lost b (select t g) e = go (is-present (b .cable .shelf) t) e
+  where
+    go : (p : Bool) → cond p selected absent ≡ lost → ⊥
+    go true e = let z : _≡_ {A = ℕ} 0 1 = cc in omega arith
+    go false e = let z : _≡_ {A = ℕ} 0 1 = cc in omega arith
+not-lost b accept e = let z : _≡_ {A = ℕ} 0 1 = cc in omega arith
+not-lost b (command d) e = let z : _≡_ {A = ℕ} 0 1 = cc in omega arith
+not-lost b (give v) e = let z : _≡_ {A = ℕ} 0 1 = cc in omega arith
+not-lost b take e = go (byte-shown (b .shown)) e
+  where
+    go : (o : Option ℕ) → took-shown o ≡ lost → ⊥
+    go None e = let z : _≡_ {A = ℕ} 0 1 = cc in omega arith
+    go (Some v) e = let z : _≡_ {A = ℕ} 0 1 = cc in omega arith
+not-lost b (speak m) e = let z : _≡_ {A = ℕ} 0 1 = cc in omega arith
+not-lost b wait e = let z : _≡_ {A = ℕ} 0 1 = cc in omega arith
+not-lost b reset e = let z : _≡_ {A = ℕ} 0 1 = cc in omega arith
+
+never-lost : (b : BusState) (c : Call) (r : Reply) → r ≡ cond (due b c) (refused 11) (granted b c) → r ≡ lost → ⊥
+never-lost b c r e f = go (due b c) (sym e ∙ f)
+  where
+    go : (t : Bool) → cond t (refused 11) (granted b c) ≡ lost → ⊥
+    go true e = let z : _≡_ {A = ℕ} 0 1 = cc in omega arith
+    go false e = not-lost b c e
+
+no-leave : (b : BusState) → Straight b → (n : Name) (x : Nexus) → b .cable .nexuses n ≡ Some x → b .cable .line ≡ held n
+no-leave b (rests m l) n x e = let z : _≡_ {A = ℕ} 0 1 = cc in absurd (omega arith)
+no-leave b (holds m l k y p) n x e = go (same-name n k) refl e
+  where
+    go : (t : Bool) → same-name n k ≡ t → cond t (Some y) None ≡ Some x → held k ≡ held n
+    go true f e = ap held (sym (same-name-is n k f))
+    go false f e = let z : _≡_ {A = ℕ} 0 1 = cc in absurd (omega arith)
 
 pub straight-through : (m : Model) → Laws m → Straight-through (strict (resting m))
 straight-through m l =
     record {
-      never-pauses = λ cs h. no-pause _ (all-calls _ (rests m l) cs h);
+      nothing-between = λ cs h. shows-plain _ (all-calls _ (rests m l) cs h);
+      never-lost = λ c cs h. never-lost (at-last _ cs) (c .call) (c .reply) (h .1 .answer);
       never-lets-go = λ cs h. no-leave _ (all-calls _ (rests m l) cs h);
     }

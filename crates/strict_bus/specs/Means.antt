@@ -14,7 +14,8 @@ use Rattle.bus.specs.Refusals.{name-of}
 use Rattle.strict_bus.specs.declared.state.Stage.{Stage}
 use Rattle.strict_bus.specs.declared.state.Stage.the-variants.{Free, Fresh, Commanded, Ended}
 use Rattle.strict_bus.specs.declared.state.StrictBus.{StrictBus}
-use Rattle.strict_bus.specs.Text.{resting, holding, underway}
+use Rattle.bus.specs.Single.{resting, holding}
+use Rattle.strict_bus.specs.Text.{underway}
 
 -- a nexus that may leave or not, at this place, with these bytes collected
 abbrev pub nexus-at : Bool → ℕ → List ℕ → Option (List ℕ) → Option ℕ → Nexus

@@ -1,7 +1,7 @@
 -- The strict bus: it never loses a selection, moves each command straight through, and never lets go. Assumes nothing.
-use Prim.Native.Nat.{ℕ, _≤_}
+use Prim.Native.Nat.{ℕ}
 use mathlib.Core.Path.{_≡_}
-use mathlib.Core.Bool.{Bool, true, false, cond}
+use mathlib.Core.Bool.{true, cond}
 use mathlib.Core.List.{List, [], _∷_}
 use lib.Dec.{eqb, ltb}
 use Rattle.std.specs.declared.option.Option.{Option}
@@ -11,32 +11,18 @@ use Rattle.shelf.specs.declared.Way.{Way}
 use Rattle.shelf.specs.declared.Way.the-variants.{Still, In, Out}
 use Rattle.shelf.specs.Model.{Model, is-present, way-of, count-of, byte-of, status-of}
 use Rattle.bus.specs.declared.Shown.{Shown}
-use Rattle.bus.specs.declared.Shown.the-variants.{DataOut, DataIn, Command, Status, MessageIn, Free, Pause}
+use Rattle.bus.specs.declared.Shown.the-variants.{DataOut, DataIn, Command, Status, Reserved4, Reserved5, MessageOut, MessageIn, Free, Reselect, Pause}
 use Rattle.bus.specs.Kinds.{kind-of, byte-shown}
-use Rattle.bus.specs.State.{Name, Nexus, Line, free, retaken, held, Cable, BusState, put, change, clear, sent, given}
-use Rattle.bus.specs.Calls.{Call, select, accept, command, give, take, speak, wait, reset, Reply, refused, selected, absent, done, took}
+use Rattle.bus.specs.State.{Name, Nexus, Line, free, retaken, held, Cable, BusState, change, clear, sent, given}
+use Rattle.bus.specs.Calls.{Call, select, accept, command, give, take, speak, wait, reset, Reply, refused, selected, lost, absent, done, took-shown}
 use Rattle.bus.specs.Refusals.{due}
 use Rattle.bus.specs.Effects.{opens, on-holder, takes, speaks}
-
----- its two states
-
--- a free line and no nexus
-abbrev pub resting : Model → Cable
-resting m = record { shelf = m; nexuses = λ n. None; opened = 0; line = free; begun = [] }
-
--- one nexus, which holds the line
-abbrev pub holding : Model → Name → Nexus → Cable
-holding m n x = record { shelf = m; nexuses = put n (Some x) (λ k. None); opened = 1; line = held n; begun = [] }
+use Rattle.bus.specs.Showing.{data-shown}
 
 ---- what is shown
 
-abbrev pub data-shown : Way → ℕ → Shown
-data-shown Still v = Pause
-data-shown In v = DataIn v
-data-shown Out v = DataOut
-
 -- a command underway: the data bytes in their order, then the status
--- (the pauses here never come, since a place never passes the count, and a command with data has a way)
+-- (the pause here never comes, since a place never passes the count)
 abbrev pub underway : Model → Name → List ℕ → ℕ → Shown
 underway m n d p =
     cond (ltb p (count-of m (n .target) (n .lun) d)) (data-shown (way-of m (n .target) (n .lun) d) (byte-of m (n .target) (n .lun) d p))
@@ -67,10 +53,6 @@ strict c = record { cable = c; shown = by-line c (c .line); order = true }
 
 ---- what a call answers and does
 
-abbrev pub took-shown : Option ℕ → Reply
-took-shown None = refused
-took-shown (Some v) = took v
-
 abbrev pub granted : BusState → Call → Reply
 granted b (select t g) = cond (is-present (b .cable .shelf) t) selected absent
 granted b accept = done
@@ -98,7 +80,7 @@ does b reset = clear (b .cable)
 
 -- one call of a strict bus: the answer and the bus afterwards, for every call
 pub record Strictly (b : BusState) (c : Call) (r : Reply) (b′ : BusState) : Type 0 where
-  pub answer : r ≡ cond (due b c) refused (granted b c)
+  pub answer : r ≡ cond (due b c) (refused 11) (granted b c)
   pub after : b′ ≡ cond (due b c) b (strict (does b c))
 
 ---- nothing comes between
@@ -117,7 +99,22 @@ abbrev pub Calls-on : BusState → List Called → Type 0
 Calls-on b [] = Unit {0}
 Calls-on b (c ∷ cs) = Calls-on b cs × Strictly (at-last b cs) (c .call) (c .reply) (c .after)
 
--- after any calls on it, the bus never pauses, and a nexus that is open holds the line
+-- FREE, COMMAND, a data byte either way, STATUS, or COMMAND COMPLETE, and nothing else
+abbrev pub Plain : Shown → Type 0
+Plain DataOut = Unit {0}
+Plain (DataIn v) = Unit {0}
+Plain Command = Unit {0}
+Plain (Status v) = Unit {0}
+Plain Reserved4 = ⊥
+Plain Reserved5 = ⊥
+Plain MessageOut = ⊥
+Plain (MessageIn v) = v ≡ 0
+Plain Free = Unit {0}
+Plain (Reselect t) = ⊥
+Plain Pause = ⊥
+
+-- after any calls on it, the bus shows nothing between, no selection was lost, and a nexus that is open holds the line
 pub record Straight-through (b : BusState) : Type 0 where
-  pub never-pauses : (cs : List Called) → Calls-on b cs → kind-of (at-last b cs .shown) ≡ 10 → ⊥
-  pub never-lets-go : (cs : List Called) → Calls-on b cs → at-last b cs .cable .line ≡ free → (n : Name) → at-last b cs .cable .nexuses n ≡ None
+  pub nothing-between : (cs : List Called) → Calls-on b cs → Plain (at-last b cs .shown)
+  pub never-lost : (c : Called) (cs : List Called) → Calls-on b (c ∷ cs) → c .reply ≡ lost → ⊥
+  pub never-lets-go : (cs : List Called) → Calls-on b cs → (n : Name) (x : Nexus) → at-last b cs .cable .nexuses n ≡ Some x → at-last b cs .cable .line ≡ held n

@@ -2,7 +2,7 @@
 use Prim.Native.Nat.{ℕ, _+_, _*_, _/_, _%_}
 use mathlib.Core.List.{List, [], _∷_}
 
--- the byte at a place: lines of 128 bytes, each a ramp that begins one brighter than the line before
+-- the byte at a place: 7 brighter from byte to byte, and 1 more at each line of 128 bytes, modulo 256
 abbrev pub ramp : ℕ → ℕ
 ramp i = (7 * i + i / 128) % 256
 

@@ -15,9 +15,9 @@ pub fn draw(strip: &mut [u8])
 fn ramp(i: usize) -> u8
     ensures { λ r. ⌜ r ≡ ramp i ⌝ }
 {
-    let column = i % 256;
+    let byte = i % 256;
     let line = i / 128 % 256;
-    ((7 * column + line) % 256) as u8
+    ((7 * byte + line) % 256) as u8
 }
 
 const MODULUS: u32 = 65_521;

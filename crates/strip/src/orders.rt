@@ -20,8 +20,9 @@ impl Order {
         match self {
             Order::Read(block) => one_block(0x08, *block),
             Order::Write(block) => one_block(0x0a, *block),
-            Order::Print(bytes) => {
-                let [high, low] = bytes.to_be_bytes();
+            Order::Print(count) => {
+                let high = (*count / 256) as u8;
+                let low = (*count % 256) as u8;
                 [0x0a, 0, 0, high, low, 0]
             }
         }
@@ -42,7 +43,7 @@ pub impl fmt::Display for Order as OrderDisplay {
         match self {
             Order::Read(block) => write!(f, "READ block {block}"),
             Order::Write(block) => write!(f, "WRITE block {block}"),
-            Order::Print(bytes) => write!(f, "PRINT {bytes} bytes"),
+            Order::Print(count) => write!(f, "PRINT {count} bytes"),
         }
     }
 }

@@ -1,4 +1,4 @@
-// The worked examples of the documents, gathered in one theorem.
+// The worked examples, gathered in one theorem.
 ghost use Rattle.worked.specs.Examples.{Examples};
 
 /// The definitions give what the worked examples say.

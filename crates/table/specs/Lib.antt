@@ -1,0 +1,11 @@
+pub mod Engine
+pub mod Script
+pub mod Table
+pub mod View
+pub mod Calls
+pub mod Serving
+pub mod Guarantee
+pub mod Sound
+pub mod Regions
+pub mod Isolation
+pub mod Cases

@@ -1,0 +1,6 @@
+pub mod Rows
+pub mod State
+pub mod Showing
+pub mod Means
+pub mod Text
+pub mod View

@@ -1,0 +1,3 @@
+// The whim bus on many tables of whim bytes, beside an independent model of it.
+mod host;
+mod tables;
