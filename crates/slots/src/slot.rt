@@ -53,7 +53,7 @@ pub struct Slots {
     pub free: u8,
     pub waiting: u8,
     pub line: Line,
-    pub begun: [u8; 257],
+    pub begun: [u8; 258],
     pub heard: u16,
     pub size: u32,
 }

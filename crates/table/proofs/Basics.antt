@@ -1,5 +1,5 @@
 -- Facts on slots by number, chains, names and first bytes. Assumes nothing.
-use Prim.Native.Nat.{ℕ, zero, suc, _+_, _≤_}
+use Prim.Native.Nat.{ℕ, zero, suc, _+_, _-_, _≤_, _<_}
 use mathlib.Core.Path.{_≡_, refl, sym, ap, subst, _∙_}
 use mathlib.Core.Bool.{Bool, true, false, cond, _&&_, _||_, not}
 use mathlib.Core.List.{List, [], _∷_, _++_}
@@ -54,6 +54,32 @@ every-at (suc n) p h k a b =
     go : (t : Bool) → eqb k (suc n) ≡ t → (k ≤ n → p k ≡ true) → p (suc n) ≡ true → p k ≡ true
     go true e ih here = subst (λ (i : ℕ). p i ≡ true) (sym (eqb-true k (suc n) e)) here
     go false e ih here = let ne = eqb-false k (suc n) e in ih (omega arith)
+
+pub every-more : (n : ℕ) (p : ℕ → Bool) → every n p ≡ true → p (suc n) ≡ true → every (suc n) p ≡ true
+unfolding every
+every-more n p h g = and-from (p (suc n)) (every n p) g h
+
+pub every-not : (n : ℕ) (p : ℕ → Bool) (k : ℕ) → 1 ≤ k → k ≤ n → p k ≡ false → every n p ≡ false
+every-not n p k a b h = go (every n p) refl
+  where
+    go : (t : Bool) → every n p ≡ t → every n p ≡ false
+    go true e = wrong (p k) (every-at n p e k a b) h
+    go false e = e
+
+-- a walk over the slots 1 to 16, before slot k
+module _ (p : ℕ → Bool) where
+  pub every-none : every 0 p ≡ true
+  unfolding every
+  every-none = refl
+
+  pub every-turn : (k : ℕ) → 1 ≤ k → every (k - 1) p ≡ true → p k ≡ true → every (k + 1 - 1) p ≡ true
+  every-turn k a h g =
+      let here : k ≡ suc (k - 1) = omega arith in
+      let on : suc (k - 1) ≡ k + 1 - 1 = omega arith in
+      subst (λ (n : ℕ). every n p ≡ true) on (every-more (k - 1) p h (subst (λ (n : ℕ). p n ≡ true) here g))
+
+  pub every-end : (k : ℕ) → 16 < k → k ≤ 17 → every (k - 1) p ≡ true → every 16 p ≡ true
+  every-end k a b h = let e : k - 1 ≡ 16 = omega arith in subst (λ (n : ℕ). every n p ≡ true) e h
 
 pub seek-some : (n : ℕ) (p : ℕ → Bool) (k : ℕ) → seek n p ≡ Some k → p k ≡ true
 unfolding seek

@@ -8,9 +8,9 @@ use lib.Dec.{eqb}
 use lib.ListN.{length}
 use Rattle.std.proofs.shelf.Tests.{or-parts, or-right, eqb-true, eqb-false, eq-eqb, ne-eqb}
 use Rattle.table.specs.Engine.{numbered, stands-on, without, tally}
-use Rattle.table.specs.View.{chain, Links}
+use Rattle.table.specs.View.{chain, Links, before}
 use Rattle.table.specs.Sound.{Once}
-use Rattle.table.proofs.Basics.{wrong, put-here, put-there, numbered-is, nobody, stands-cons, stands-head, stands-tail, tally-one, tally-none, tally-at-most}
+use Rattle.table.proofs.Basics.{wrong, put-here, put-there, numbered-is, nobody, stands-cons, tally-one, tally-none, tally-at-most}
 
 -- a next number changed
 abbrev pub set-next : ℕ → ℕ → (ℕ → ℕ) → ℕ → ℕ
@@ -85,11 +85,6 @@ unfolding without
 unlink-head f h k ks o l =
     subst (Links f (f k)) (sym (ap (λ (t : Bool). cond t (without k ks) (k ∷ without k ks)) (eq-eqb k k refl) ∙ without-off k ks (o .0))) (l .2)
 
--- the one before k, in a chain that begins with d
-abbrev pub before : ℕ → ℕ → List ℕ → ℕ
-before k d [] = d
-before k d (j ∷ js) = cond (eqb j k) d (before k j js)
-
 pub on-before : (k d : ℕ) (ks : List ℕ) → stands-on (before k d ks) (d ∷ ks) ≡ true
 on-before k d [] = stands-cons d d [] ∙ ap (λ (t : Bool). t || stands-on d []) (eq-eqb d d refl)
 on-before k d (j ∷ js) = go (eqb j k) (on-before k j js)
@@ -125,48 +120,6 @@ unlink-links f h d k (j ∷ js) nd s o l = go (eqb j k) refl (λ nj sj. unlink-l
               (sym (put-there d (before k j js) (f k) (f d) (λ z. off-chain (before k j js) d (j ∷ js) (on-before k j js) (o .0) (sym z))))
               (ih nj sj),
         )
-
----- the same by where a walk stands
-
-never-none : {A : Type 0} (us : List ℕ) (b : ℕ) (l : List ℕ) → [] ≡ us ++ b ∷ l → A
-never-none [] b l e = let z : _≡_ {A = ℕ} 0 1 = cc in absurd (omega arith)
-never-none (u ∷ us) b l e = let z : _≡_ {A = ℕ} 0 1 = cc in absurd (omega arith)
-
--- the slot at the end of a walk is the last
-pub last-at : (us : List ℕ) (l d : ℕ) (ds : List ℕ) → d ∷ ds ≡ us ++ l ∷ [] → last-of d ds ≡ l
-last-at [] l d [] e = cc
-last-at [] l d (x ∷ ds) e = let z : _≡_ {A = ℕ} 0 1 = cc in absurd (omega arith)
-last-at (u ∷ us) l d [] e = let q : [] ≡ us ++ l ∷ [] = cc in never-none us l [] q
-last-at (u ∷ us) l d (x ∷ ds) e = let q : x ∷ ds ≡ us ++ l ∷ [] = cc in last-at us l x ds q
-
--- the slot that a walk came from is the one before
-pub before-at : (us : List ℕ) (b k : ℕ) (vs : List ℕ) (d : ℕ) (ds : List ℕ) → d ∷ ds ≡ us ++ b ∷ k ∷ vs → Once (d ∷ ds)
-    → (k ≡ d → ⊥) × (stands-on k ds ≡ true) × (before k d ds ≡ b)
-before-at [] b k vs d ds e o =
-    let p : b ≡ d = cc in
-    let q : k ∷ vs ≡ ds = cc in
-    subst (λ (x : ℕ). (k ≡ x → ⊥) × (stands-on k ds ≡ true) × (before k x ds ≡ b)) p
-    (subst (λ (l : List ℕ). (k ≡ b → ⊥) × (stands-on k l ≡ true) × (before k b l ≡ b)) q (
-      λ z. wrong _ (ap (λ (i : ℕ). stands-on i (k ∷ vs)) (sym z) ∙ stands-head k vs) (ap (stands-on b) q ∙ subst (λ (x : ℕ). stands-on x ds ≡ false) (sym p) (o .0)),
-      stands-head k vs,
-      ap (λ (t : Bool). cond t b (before k k vs)) (eq-eqb k k refl),
-    ))
-before-at (u ∷ us) b k vs d [] e o = let q : [] ≡ us ++ b ∷ k ∷ vs = cc in never-none us b (k ∷ vs) q
-before-at (u ∷ us) b k vs d (x ∷ ds) e o =
-    let q : x ∷ ds ≡ us ++ b ∷ k ∷ vs = cc in
-    let i = before-at us b k vs x ds q (o .1) in
-    let on : stands-on k (x ∷ ds) ≡ true = stands-tail k x ds (i .0) ∙ i .1 in
-    (λ z. wrong _ on (ap (λ (j : ℕ). stands-on j (x ∷ ds)) z ∙ o .0), on, ap (λ (t : Bool). cond t d (before k x ds)) (ne-eqb x k (λ z. i .0 (sym z))) ∙ i .2)
-
--- one turn of a walk
-pub chain-step : (n : ℕ) (f : ℕ → ℕ) (h : ℕ) → chain (suc n) f h ≡ cond (numbered h) (h ∷ chain n f (f h)) []
-unfolding chain
-chain-step n f h = refl
-
-pub chain-none : (n : ℕ) (f : ℕ → ℕ) → chain n f 0 ≡ []
-unfolding chain
-chain-none zero f = refl
-chain-none (suc n) f = refl
 
 -- a walk has at most as many slots as turns
 pub chain-short : (n : ℕ) (f : ℕ → ℕ) (h : ℕ) → length (chain n f h) ≤ n

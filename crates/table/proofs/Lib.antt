@@ -16,6 +16,7 @@ pub mod Isolated
 pub mod Sounds
 pub mod Chains
 pub mod Views
+pub mod Walks
 pub mod Linking
 pub mod Meanings
 pub mod Worked

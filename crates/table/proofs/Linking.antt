@@ -11,10 +11,10 @@ use Rattle.slots.specs.declared.slot.Slot.{Slot}
 use Rattle.slots.specs.declared.slot.Slots.{Slots}
 use Rattle.table.specs.Engine.{Entry, in-use, is-waiting, numbered, stands-on, without, put-slot, set-slot}
 use Rattle.table.specs.Sound.{Once, Sound}
-use Rattle.table.specs.View.{entry-of, slot-at, entries, nexts, chain, line-of, view, Linked, Links}
+use Rattle.table.specs.View.{entry-of, slot-at, entries, nexts, chain, line-of, view, Linked, Links, before}
 use Rattle.table.proofs.Basics.{wrong, numbered-is, no-and, nobody, stands-head, stands-tail, once-without, once-append, put-here, put-there}
 use Rattle.table.proofs.States.{waiting-is, free-is}
-use Rattle.table.proofs.Chains.{set-next, links-off, put-back, last-of, last-at, before-at, append-links, before, unlink-head, unlink-links, chain-is, chain-short, at-most-16, on-last, on-before, without-other}
+use Rattle.table.proofs.Chains.{set-next, links-off, put-back, last-of, append-links, unlink-head, unlink-links, chain-is, chain-short, at-most-16, on-last, on-before, without-other}
 use Rattle.table.proofs.Views.{entries-written, nexts-written, next-here, entry-here, linked-by}
 
 -- fields by what their slots and chains come to
@@ -43,11 +43,6 @@ linked s entry next free waiting h =
       waiting = subst (λ (f : ℕ → ℕ). Links f (s .waiting) (chain 16 f (s .waiting))) (sym (h .next-so))
           (linked-by next (s .waiting) waiting (h .waiting-so) (at-most-16 next (s .waiting) waiting (h .waiting-once) (h .waiting-so)));
     }
-
--- a list with something in it has a head
-headed : (us : List ℕ) (b : ℕ) (l : List ℕ) → (d : ℕ) × (ds : List ℕ) × (us ++ b ∷ l ≡ d ∷ ds)
-headed [] b l = (b, l, refl)
-headed (u ∷ us) b l = (u, us ++ b ∷ l, refl)
 
 module _ (s : Slots) (n : length (s .slots) ≡ 16) (h : Linked s) (o : Sound (view s)) where
   abbrev xs : List Slot
@@ -189,11 +184,11 @@ module _ (s : Slots) (n : length (s .slots) ≡ 16) (h : Linked s) (o : Sound (v
                   ∙ sym (put-there j k (entry-of x) (entries xs j) (λ m. not-last (sym ji ∙ m)))
               go j false i = refl
 
-      view-append : view append-fields ≡ record { slots = put-slot k (entry-of x) (view s .slots); free = ks; waiting = view s .waiting ++ k ∷ []; line = view s .line; size = s .size }
+      pub view-append : view append-fields ≡ record { slots = put-slot k (entry-of x) (view s .slots); free = ks; waiting = view s .waiting ++ k ∷ []; line = view s .line; size = s .size }
       view-append = viewed append-fields _ _ _ _ append-so
           ∙ ap (λ (l : List ℕ). record { slots = put-slot k (entry-of x) (view s .slots); free = ks; waiting = l ++ k ∷ []; line = view s .line; size = s .size }) (sym e)
 
-      linked-append : Linked append-fields
+      pub linked-append : Linked append-fields
       linked-append = linked append-fields _ _ _ _ append-so
 
   ---- a slot leaves the waiting chain
@@ -259,68 +254,11 @@ module _ (s : Slots) (n : length (s .slots) ≡ 16) (h : Linked s) (o : Sound (v
             go j true i = ye ∙ sym (entry-here xs (before k d ds) lo hi) ∙ ap (entries xs) (sym (eqb-true j (before k d ds) i))
             go j false i = refl
 
-    view-unlink : view unlink-fields ≡ record { slots = view s .slots; free = view s .free; waiting = without k (view s .waiting); line = view s .line; size = s .size }
+    pub view-unlink : view unlink-fields ≡ record { slots = view s .slots; free = view s .free; waiting = without k (view s .waiting); line = view s .line; size = s .size }
     view-unlink = viewed unlink-fields _ _ _ _ unlink-so
 
-    linked-unlink : Linked unlink-fields
+    pub linked-unlink : Linked unlink-fields
     linked-unlink = linked unlink-fields _ _ _ _ unlink-so
-
-  ---- the same by where a walk of the waiting chain stands
-
-  -- it ended with slot l, whose next number is k's now
-  module _ (k : ℕ) (ks : List ℕ) (x : Slot) (q : view s .free ≡ k ∷ ks) (z : x .next ≡ 0)
-      (us : List ℕ) (l : ℕ) (y : Slot) (e : view s .waiting ≡ us ++ l ∷ []) (yk : y .next ≡ k) (ye : entry-of y ≡ entry-of (slot-at (s .slots) l)) where
-    abbrev appended-fields : ℕ → Slots
-    appended-fields i = record {
-      slots = set (set (s .slots) (k - 1) x) (i - 1) y;
-      free = slot-at (s .slots) k .next;
-      waiting = s .waiting;
-      line = s .line;
-      begun = s .begun;
-      heard = s .heard;
-      size = s .size;
-    }
-
-    ends-so : last-of (headed us l [] .0) (headed us l [] .1) ≡ l
-    ends-so = last-at us l (headed us l [] .0) (headed us l [] .1) (sym (headed us l [] .2))
-
-    entry-so : entry-of y ≡ entry-of (slot-at (s .slots) (last-of (headed us l [] .0) (headed us l [] .1)))
-    entry-so = ye ∙ ap (λ (i : ℕ). entry-of (slot-at (s .slots) i)) (sym ends-so)
-
-    pub view-append-at : view (appended-fields l) ≡ record { slots = put-slot k (entry-of x) (view s .slots); free = ks; waiting = view s .waiting ++ k ∷ []; line = view s .line; size = s .size }
-    view-append-at =
-        subst (λ (i : ℕ). view (appended-fields i) ≡ record { slots = put-slot k (entry-of x) (view s .slots); free = ks; waiting = view s .waiting ++ k ∷ []; line = view s .line; size = s .size }) ends-so
-        (view-append k ks x q z (headed us l [] .0) (headed us l [] .1) y (e ∙ headed us l [] .2) yk entry-so)
-
-    pub linked-append-at : Linked (appended-fields l)
-    linked-append-at =
-        subst (λ (i : ℕ). Linked (appended-fields i)) ends-so (linked-append k ks x q z (headed us l [] .0) (headed us l [] .1) y (e ∙ headed us l [] .2) yk entry-so)
-
-  -- k comes after slot b, whose next number is k's own now
-  module _ (us : List ℕ) (b k : ℕ) (vs : List ℕ) (y : Slot) (q : view s .waiting ≡ us ++ b ∷ k ∷ vs)
-      (yk : y .next ≡ slot-at (s .slots) k .next) (ye : entry-of y ≡ entry-of (slot-at (s .slots) b)) where
-    abbrev unlinked-fields : ℕ → Slots
-    unlinked-fields i = record { slots = set (s .slots) (i - 1) y; free = s .free; waiting = s .waiting; line = s .line; begun = s .begun; heard = s .heard; size = s .size }
-
-    abbrev d : ℕ
-    d = headed us b (k ∷ vs) .0
-
-    abbrev ds : List ℕ
-    ds = headed us b (k ∷ vs) .1
-
-    follows : (k ≡ d → ⊥) × (stands-on k ds ≡ true) × (before k d ds ≡ b)
-    follows = before-at us b k vs d ds (sym (headed us b (k ∷ vs) .2)) (subst Once (q ∙ headed us b (k ∷ vs) .2) (o .waiting-once))
-
-    before-so : entry-of y ≡ entry-of (slot-at (s .slots) (before k d ds))
-    before-so = ye ∙ ap (λ (i : ℕ). entry-of (slot-at (s .slots) i)) (sym (follows .2))
-
-    pub view-unlink-at : view (unlinked-fields b) ≡ record { slots = view s .slots; free = view s .free; waiting = without k (view s .waiting); line = view s .line; size = s .size }
-    view-unlink-at =
-        subst (λ (i : ℕ). view (unlinked-fields i) ≡ record { slots = view s .slots; free = view s .free; waiting = without k (view s .waiting); line = view s .line; size = s .size }) (follows .2)
-        (view-unlink k d ds y (q ∙ headed us b (k ∷ vs) .2) (follows .0) (follows .1) yk before-so)
-
-    pub linked-unlink-at : Linked (unlinked-fields b)
-    linked-unlink-at = subst (λ (i : ℕ). Linked (unlinked-fields i)) (follows .2) (linked-unlink k d ds y (q ∙ headed us b (k ∷ vs) .2) (follows .0) (follows .1) yk before-so)
 
 ---- a slot on no chain is written, whatever its next number
 

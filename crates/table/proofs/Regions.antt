@@ -52,46 +52,50 @@ module _ (e : Engine) (o : Sound e) where
       subst (λ (i : ℕ). put-slot k x (e .slots) i .state ≡ Connected) (sym (r .0)) (ap (λ (y : Entry). y .state) (put-here k x (e .slots k)) ∙ r .1)
 
   -- a slot in use and not waiting, changed
+  pub slot-sound : (k : ℕ) (x : Entry) (l : Line) → in-use (e .slots k .state) ≡ true → is-waiting (e .slots k .state) ≡ false → in-use (x .state) ≡ true → is-waiting (x .state) ≡ false
+      → ((j : ℕ) (bs : List ℕ) → l ≡ held j bs → (j ≡ k) × (x .state ≡ Connected)) → Sound (set-slot k x l e)
+  slot-sound k x l u w u′ w′ h =
+      record {
+        range = put-cases (λ (j : ℕ) (y : Entry). in-use (y .state) ≡ true → numbered j ≡ true) k x (e .slots) (λ _. o .range k u) (λ j ne. o .range j);
+        free-chain = put-cases (λ (j : ℕ) (y : Entry). stands-on j (e .free) ≡ (numbered j && not (in-use (y .state)))) k x (e .slots)
+            (o .free-chain k ∙ ap (λ (t : Bool). numbered k && not t) (u ∙ sym u′)) (λ j ne. o .free-chain j);
+        free-once = o .free-once;
+        waiting-chain = put-cases (λ (j : ℕ) (y : Entry). stands-on j (e .waiting) ≡ is-waiting (y .state)) k x (e .slots) (o .waiting-chain k ∙ w ∙ sym w′) (λ j ne. o .waiting-chain j);
+        waiting-once = o .waiting-once;
+        holding = held-now k x l h;
+      }
+
   sound-slot : (k : ℕ) (x : Entry) (l : Line) → in-use (e .slots k .state) ≡ true → is-waiting (e .slots k .state) ≡ false → in-use (x .state) ≡ true → is-waiting (x .state) ≡ false
       → x .command ≡ e .slots k .command → ((j : ℕ) (bs : List ℕ) → l ≡ held j bs → (j ≡ k) × (x .state ≡ Connected)) → Good (set-slot k x l e)
-  sound-slot k x l u w u′ w′ c h = (
-    record {
-      range = put-cases (λ (j : ℕ) (y : Entry). in-use (y .state) ≡ true → numbered j ≡ true) k x (e .slots) (λ _. o .range k u) (λ j ne. o .range j);
-      free-chain = put-cases (λ (j : ℕ) (y : Entry). stands-on j (e .free) ≡ (numbered j && not (in-use (y .state)))) k x (e .slots)
-          (o .free-chain k ∙ ap (λ (t : Bool). numbered k && not t) (u ∙ sym u′)) (λ j ne. o .free-chain j);
-      free-once = o .free-once;
-      waiting-chain = put-cases (λ (j : ℕ) (y : Entry). stands-on j (e .waiting) ≡ is-waiting (y .state)) k x (e .slots) (o .waiting-chain k ∙ w ∙ sym w′) (λ j ne. o .waiting-chain j);
-      waiting-once = o .waiting-once;
-      holding = held-now k x l h;
-    },
-    put-regions k x (e .waiting) l (u′ ∙ sym u) c,
-  )
+  sound-slot k x l u w u′ w′ c h = (slot-sound k x l u w u′ w′ h, put-regions k x (e .waiting) l (u′ ∙ sym u) c)
 
   -- a waiting slot, changed and off its chain
+  pub unlink-sound : (k : ℕ) (x : Entry) (l : Line) → e .slots k .state ≡ Waiting → in-use (x .state) ≡ true → is-waiting (x .state) ≡ false
+      → ((j : ℕ) (bs : List ℕ) → l ≡ held j bs → (j ≡ k) × (x .state ≡ Connected)) → Sound (unlink-slot k x l e)
+  unlink-sound k x l wt u w h =
+      record {
+        range = put-cases (λ (j : ℕ) (y : Entry). in-use (y .state) ≡ true → numbered j ≡ true) k x (e .slots) (λ _. o .range k (ap in-use wt)) (λ j ne. o .range j);
+        free-chain = put-cases (λ (j : ℕ) (y : Entry). stands-on j (e .free) ≡ (numbered j && not (in-use (y .state)))) k x (e .slots)
+            (o .free-chain k ∙ ap (λ (t : Bool). numbered k && not t) (ap in-use wt ∙ sym u)) (λ j ne. o .free-chain j);
+        free-once = o .free-once;
+        waiting-chain = put-cases (λ (j : ℕ) (y : Entry). stands-on j (without k (e .waiting)) ≡ is-waiting (y .state)) k x (e .slots)
+            (stands-without k k (e .waiting) ∙ ap (λ (t : Bool). not t && stands-on k (e .waiting)) (eq-eqb k k refl) ∙ sym w)
+            (λ j ne. stands-without j k (e .waiting) ∙ ap (λ (t : Bool). not t && stands-on j (e .waiting)) (ne-eqb j k ne) ∙ o .waiting-chain j);
+        waiting-once = once-without k (e .waiting) (o .waiting-once);
+        holding = held-now k x l h;
+      }
+
   sound-unlink : (k : ℕ) (x : Entry) (l : Line) → e .slots k .state ≡ Waiting → in-use (x .state) ≡ true → is-waiting (x .state) ≡ false
       → x .command ≡ e .slots k .command → ((j : ℕ) (bs : List ℕ) → l ≡ held j bs → (j ≡ k) × (x .state ≡ Connected)) → Good (unlink-slot k x l e)
-  sound-unlink k x l wt u w c h = (
-    record {
-      range = put-cases (λ (j : ℕ) (y : Entry). in-use (y .state) ≡ true → numbered j ≡ true) k x (e .slots) (λ _. o .range k (ap in-use wt)) (λ j ne. o .range j);
-      free-chain = put-cases (λ (j : ℕ) (y : Entry). stands-on j (e .free) ≡ (numbered j && not (in-use (y .state)))) k x (e .slots)
-          (o .free-chain k ∙ ap (λ (t : Bool). numbered k && not t) (ap in-use wt ∙ sym u)) (λ j ne. o .free-chain j);
-      free-once = o .free-once;
-      waiting-chain = put-cases (λ (j : ℕ) (y : Entry). stands-on j (without k (e .waiting)) ≡ is-waiting (y .state)) k x (e .slots)
-          (stands-without k k (e .waiting) ∙ ap (λ (t : Bool). not t && stands-on k (e .waiting)) (eq-eqb k k refl) ∙ sym w)
-          (λ j ne. stands-without j k (e .waiting) ∙ ap (λ (t : Bool). not t && stands-on j (e .waiting)) (ne-eqb j k ne) ∙ o .waiting-chain j);
-      waiting-once = once-without k (e .waiting) (o .waiting-once);
-      holding = held-now k x l h;
-    },
-    put-regions k x (without k (e .waiting)) l (u ∙ sym (ap in-use wt)) c,
-  )
+  sound-unlink k x l wt u w c h = (unlink-sound k x l wt u w h, put-regions k x (without k (e .waiting)) l (u ∙ sym (ap in-use wt)) c)
 
-  sound-line : (l : Line) → ((j : ℕ) (bs : List ℕ) → l ≡ held j bs → e .slots j .state ≡ Connected) → Good (set-line l e)
+  pub sound-line : (l : Line) → ((j : ℕ) (bs : List ℕ) → l ≡ held j bs → e .slots j .state ≡ Connected) → Good (set-line l e)
   sound-line l h = (
     record { range = o .range; free-chain = o .free-chain; free-once = o .free-once; waiting-chain = o .waiting-chain; waiting-once = o .waiting-once; holding = h },
     record { used = λ k. refl; commands = λ k. refl; size = refl },
   )
 
-  sound-cleared : Good (cleared e)
+  pub sound-cleared : Good (cleared e)
   sound-cleared = (
     record {
       range = λ k. reset-at (λ (y : Entry). in-use (y .state) ≡ true → numbered k ≡ true) is-open (e .slots k) (λ h _. o .range k (open-used _ h)) (λ _. o .range k);

@@ -15,10 +15,10 @@ use Rattle.slots.specs.declared.slot.State.{State}
 use Rattle.slots.specs.declared.slot.State.the-variants.{Free, Waiting, Connected, Away, Finished}
 use Rattle.slots.specs.declared.answer.Answer.{Answer}
 use Rattle.slots.specs.declared.answer.End.{End}
-use Rattle.table.specs.Engine.{Just-made, Command, Entry, Engine, in-use, is-waiting, is-in, is-out, numbered, stands-on, with-state}
+use Rattle.table.specs.Engine.{Just-made, Command, Entry, Engine, in-use, is-waiting, is-finished, is-in, is-out, numbered, stands-on, with-state}
 use Rattle.table.specs.Script.{Script, return, look, ask, read, write, World, Runs}
 use Rattle.table.specs.Table.{step as table-step}
-use Rattle.table.specs.Calls.{end-by, Request, command-asked, earlier-refusal, just-accepted, taken-in, submit-engine, collect-engine, open-or-waiting, reset-engine, When, Row, fits, ends, Passes, Event, submit, step, run, collect, reset, owner, Does, at-end}
+use Rattle.table.specs.Calls.{end-by, Request, command-asked, earlier-refusal, just-accepted, taken-in, submit-engine, put-back, collect-engine, open-or-waiting, reset-engine, When, Row, fits, ends, Passes, Event, submit, step, run, collect, reset, owner, Does, at-end}
 use Rattle.table.specs.Sound.{Once, Sound, Sound-on-every-bus}
 use Rattle.table.specs.Regions.{In-region, Within, Same-regions, Only-inside, Step-writes-inside, Run-writes-inside}
 use Rattle.table.proofs.Basics.{wrong, put-cases, put-there, no-and, or-true, or-false, nobody, stands-cons, stands-append, once-append}
@@ -61,7 +61,7 @@ step-writes-inside w o a w′ r =
 pub row-sound : (w : World) → Sound (w .engine) → (a : Answer) (w′ : World) → Row w a w′ → Sound (w′ .engine) × Same-regions (w .engine) (w′ .engine)
 row-sound w o a w′ r = leaves (In-region is-out (w .engine)) (In-region is-in (w .engine)) (λ e′. Sound e′ × Same-regions (w .engine) e′) a w′ (table-step (w .engine)) (keeps-to-regions (w .engine) o) (w .bus) (w .memory) r
 
-pub passes-sound : (n : ℕ) (w : World) → Sound (w .engine) → (made : ℕ) (end : End) (w′ : World) → Passes n w made end w′ → Sound (w′ .engine)
+passes-sound : (n : ℕ) (w : World) → Sound (w .engine) → (made : ℕ) (end : End) (w′ : World) → Passes n w made end w′ → Sound (w′ .engine)
 passes-sound zero w o made end w′ (m, e, u) = subst (λ (v : World). Sound (v .engine)) (sym u) o
 passes-sound (suc n) w o made end w′ (a, w₁, r, d) = go (ends a) (λ m p. passes-sound n w₁ (row-sound w o a w₁ r .0) m end w′ p) d
   where
@@ -82,7 +82,7 @@ run-writes-inside (suc n) w o made end w′ (a, w₁, r, d) = go (ends a) (λ m 
     go false ih (m, e, p) = inside-on (w .engine) (w₁ .engine) (w .memory) (w₁ .memory) (w′ .memory) (row-sound w o a w₁ r .1) (step-writes-inside w o a w₁ r) (ih m p)
 
 module _ (e : Engine) (o : Sound e) where
-  taken-sound : (c : Command) (f : List ℕ) → e .free ≡ f → Sound (taken-in c f e)
+  pub taken-sound : (c : Command) (f : List ℕ) → e .free ≡ f → Sound (taken-in c f e)
   taken-sound c [] q = o
   taken-sound c (k ∷ ks) q =
       record {
@@ -104,11 +104,11 @@ module _ (e : Engine) (o : Sound e) where
       once : (stands-on k ks ≡ false) × Once ks
       once = subst Once q (o .free-once)
 
-  submit-sound : (p : Option ℕ) (r : Request) → Sound (submit-engine p r e)
+  pub submit-sound : (p : Option ℕ) (r : Request) → Sound (submit-engine p r e)
   submit-sound (Some n) r = o
   submit-sound None r = taken-sound (command-asked r) (e .free) refl
 
-  collect-sound : (k : ℕ) (t : State) → e .slots k .state ≡ t → Sound (collect-engine t k e)
+  pub collect-sound : (k : ℕ) (t : State) → e .slots k .state ≡ t → Sound (collect-engine t k e)
   collect-sound k Free q = o
   collect-sound k Waiting q = o
   collect-sound k Connected q = o
@@ -129,6 +129,17 @@ module _ (e : Engine) (o : Sound e) where
       differ : Connected ≡ Finished r → ⊥
       differ h = let z : _≡_ {A = ℕ} 0 1 = cc in omega arith
 
+  -- a finished slot put back
+  pub put-back-sound : (k : ℕ) → is-finished (e .slots k .state) ≡ true → Sound (put-back k e)
+  put-back-sound k h = subst Sound (is-put (e .slots k .state) h) (collect-sound k (e .slots k .state) refl)
+    where
+      is-put : (t : State) → is-finished t ≡ true → collect-engine t k e ≡ put-back k e
+      is-put Free h = wrong false h refl
+      is-put Waiting h = wrong false h refl
+      is-put Connected h = wrong false h refl
+      is-put Away h = wrong false h refl
+      is-put (Finished o) h = refl
+
   reset-sound : Sound (reset-engine e)
   reset-sound =
       record {
@@ -140,8 +151,7 @@ module _ (e : Engine) (o : Sound e) where
         holding = λ k bs h. absurd (idle-unheld k bs h);
       }
 
--- every call keeps the engine sound
-pub call-sound : (ev : Event) (w w′ : World) → Sound (w .engine) → Does ev w w′ → Sound (w′ .engine)
+call-sound : (ev : Event) (w w′ : World) → Sound (w .engine) → Does ev w w′ → Sound (w′ .engine)
 call-sound (submit r a) w w′ o d = subst (λ (v : World). Sound (v .engine)) (sym (d .after)) (submit-sound (w .engine) o (earlier-refusal (w .engine) r) r)
 call-sound (step r) w w′ o d = go (fits w) d
   where

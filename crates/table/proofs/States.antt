@@ -79,6 +79,20 @@ done-finished Connected h = wrong false h refl
 done-finished Away h = wrong false h refl
 done-finished (Finished o) h = refl
 
+pub finished-used : (t : State) → is-finished t ≡ true → in-use t ≡ true
+finished-used Free h = wrong false h refl
+finished-used Waiting h = refl
+finished-used Connected h = refl
+finished-used Away h = refl
+finished-used (Finished o) h = refl
+
+pub finished-not-waiting : (t : State) → is-finished t ≡ true → is-waiting t ≡ false
+finished-not-waiting Free h = refl
+finished-not-waiting Waiting h = wrong false h refl
+finished-not-waiting Connected h = refl
+finished-not-waiting Away h = refl
+finished-not-waiting (Finished o) h = refl
+
 ---- open or waiting
 
 pub busy-used : (t : State) → open-or-waiting t ≡ true → in-use t ≡ true

@@ -65,21 +65,28 @@ command-asked r = record {
 abbrev pub share : ℕ → ℕ → ℕ → ℕ → Bool
 share b n c m = (ltb 0 n && ltb 0 m) && (ltb b (c + m) && ltb c (b + n))
 
--- slot k is not in use, or its region shares no byte with the one asked for, or both are out
-abbrev pub clear-of : Engine → Command → ℕ → Bool
-clear-of e c k = not (in-use (e .slots k .state)) || (not (share (c .base) (c .length) (e .slots k .command .base) (e .slots k .command .length))
-    || (is-out (c .direction) && is-out (e .slots k .command .direction)))
+-- a slot is not in use, or its region shares no byte with the one asked for, or both are out
+abbrev pub clear-by : Command → Entry → Bool
+clear-by c x = not (in-use (x .state)) || (not (share (c .base) (c .length) (x .command .base) (x .command .length)) || (is-out (c .direction) && is-out (x .command .direction)))
 
--- the first test that fails, by its number
-abbrev pub earlier-refusal : Engine → Request → Option ℕ
-earlier-refusal e r =
+abbrev pub clear-of : Engine → Command → ℕ → Bool
+clear-of e c k = clear-by c (e .slots k)
+
+-- the first test of the request alone that fails, by its number; else what the others come to
+abbrev pub malformed : Request → Option ℕ → Option ℕ
+malformed r others =
     ltb 6 (r .target) then Some 1
     else ltb 7 (r .lun) then Some 2
     else not (well-sized (r .bytes)) then Some 3
     else ltb 2 (r .manner) || (ltb 2 (r .direction) || (eqb (r .direction) 0 && not (eqb (r .length) 0))) then Some 4
-    else ltb (e .size) (r .base + r .length) then Some 5
+    else others
+
+-- the first test that fails
+abbrev pub earlier-refusal : Engine → Request → Option ℕ
+earlier-refusal e r = malformed r (
+    ltb (e .size) (r .base + r .length) then Some 5
     else not (every 16 (clear-of e (command-asked r))) then Some 6
-    else None
+    else None)
 
 -- a command just accepted: waiting, pointers 0, nothing sent, no status
 abbrev pub just-accepted : Command → Entry
@@ -124,12 +131,15 @@ collect-answer Away x = Err 9
 collect-answer (Finished o) x = Ok (record { outcome = o; status = byte-number (x .status); count = x .current })
 
 -- its slot is put at the free head
+abbrev pub put-back : ℕ → Engine → Engine
+put-back k e = record { slots = put-slot k (with-state Free (e .slots k)) (e .slots); free = k ∷ e .free; waiting = e .waiting; line = e .line; size = e .size }
+
 abbrev pub collect-engine : State → ℕ → Engine → Engine
 collect-engine Free k e = e
 collect-engine Waiting k e = e
 collect-engine Connected k e = e
 collect-engine Away k e = e
-collect-engine (Finished o) k e = record { slots = put-slot k (with-state Free (e .slots k)) (e .slots); free = k ∷ e .free; waiting = e .waiting; line = e .line; size = e .size }
+collect-engine (Finished o) k e = put-back k e
 
 pub record Collects (w : World) (k : ℕ) (a : Result Collected ℕ) (w′ : World) : Type 0 where
   pub answer : a ≡ collect-answer (w .engine .slots k .state) (w .engine .slots k)

@@ -76,11 +76,12 @@ message-row e f s =
 
 ---- idle
 
--- beside command j, k may be selected: j is not open at k's unit, or both are tagged
+-- beside the command of y that of x may be selected: y is not open at x's unit, or both are tagged
+abbrev pub lets-by : Entry → Entry → Bool
+lets-by x y = not (is-open (y .state) && same-unit (x .command) (y .command)) || (tagged (x .command .manner) && tagged (y .command .manner))
+
 abbrev pub lets : Engine → ℕ → ℕ → Bool
-lets e k j =
-    not (is-open (e .slots j .state) && same-unit (e .slots k .command) (e .slots j .command))
-    || (tagged (e .slots k .command .manner) && tagged (e .slots j .command .manner))
+lets e k j = lets-by (e .slots k) (e .slots j)
 
 -- its unit has no connected or away command, or it and all of those are tagged
 abbrev pub eligible : Engine → ℕ → Bool
@@ -121,8 +122,12 @@ idle-row e s =
 abbrev pub connecting : Engine → ℕ → Script
 connecting e k = return (Told k) (set-slot k (with-state Connected (with-pointers (e .slots k .saved) (e .slots k .saved) (e .slots k))) (held k []) e)
 
+-- it is away, and of this target and LUN
+abbrev pub away-by : ℕ → ℕ → Entry → Bool
+away-by t l x = is-away (x .state) && (eqb (x .command .target) t && eqb (x .command .lun) l)
+
 abbrev pub away-at : Engine → ℕ → ℕ → ℕ → Bool
-away-at e t l k = is-away (e .slots k .state) && (eqb (e .slots k .command .target) t && eqb (e .slots k .command .lun) l)
+away-at e t l k = away-by t l (e .slots k)
 
 abbrev pub untagged-at : Engine → ℕ → ℕ → ℕ → Bool
 untagged-at e t l k = away-at e t l k && not (tagged (e .slots k .command .manner))

@@ -3,6 +3,7 @@ use Prim.Native.Nat.{ℕ, zero, suc, _-_}
 use mathlib.Core.Path.{_≡_}
 use mathlib.Core.Bool.{Bool, true, false, cond}
 use mathlib.Core.List.{List, [], _∷_, map}
+use lib.Dec.{eqb}
 use lib.ListN.{getD, take}
 use Rattle.std.specs.declared.option.Option.the-variants.{None}
 use Rattle.scsi.specs.declared.cdb.Cdb.the-variants.{Six}
@@ -70,6 +71,11 @@ abbrev pub Links : (ℕ → ℕ) → ℕ → List ℕ → Type 0
 Links next h [] = h ≡ 0
 Links next h (k ∷ ks) = (h ≡ k) × (numbered k ≡ true) × Links next (next k) ks
 
+-- the one before k in a chain that begins with d, or the last of it
+abbrev pub before : ℕ → ℕ → List ℕ → ℕ
+before k d [] = d
+before k d (j ∷ js) = cond (eqb j k) d (before k j js)
+
 ---- the line, and the whole
 
 abbrev pub line-of : Kept-line → List ℕ → Line
@@ -100,7 +106,7 @@ abbrev pub fresh-slot : ℕ → Slot
 fresh-slot n = record {
   next = n;
   state = Free;
-  command = no-slot .command;
+  command = record { target = 0; lun = 0; manner = Plain; direction = Still; bytes = Six (0 ∷ 0 ∷ 0 ∷ 0 ∷ 0 ∷ 0 ∷ []); base = 0; length = 0 };
   current = 0;
   saved = 0;
   sent = false;

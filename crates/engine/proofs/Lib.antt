@@ -1,0 +1,3 @@
+pub mod Whole
+pub mod Kept
+pub mod Submits

@@ -1,0 +1,16 @@
+//! The initiator's engine: it accepts commands, steps them over a bus, and hands back what they came to.
+mod chains;
+mod changes;
+mod collect;
+mod making;
+mod request;
+mod size;
+mod state;
+mod submit;
+mod ticket;
+
+pub use request::Request;
+pub use size::MemorySize;
+pub use size::memory_size;
+pub use state::Engine;
+pub use ticket::Ticket;
