@@ -5,6 +5,7 @@ use mathlib.Core.Bool.{Bool, true, false, cond, not}
 use mathlib.Core.List.{List, [], _∷_}
 use native.Mathlib.Omega.{arith}
 use lib.Dec.{eqb}
+use lib.ListN.{length}
 use Rattle.std.proofs.shelf.Tests.{and-parts, and-from, not-true, eqb-true, eq-eqb}
 use Rattle.slots.specs.declared.slot.State.{State}
 use Rattle.slots.specs.declared.slot.State.the-variants.{Free, Waiting, Connected, Away, Finished}
@@ -103,14 +104,14 @@ sound-of e = record {
 }
 
 -- fields that stand for a sound engine
-pub whole-by : (s : Slots) (e : Engine) → view s ≡ e → Sound e → Linked s → held-right (s .line) (e .slots) ≡ true → s .heard ≤ 257 → Whole s
-whole-by s e q o l h n = (
+pub whole-by : (s : Slots) (e : Engine) → view s ≡ e → Sound e → Linked s → held-right (s .line) (e .slots) ≡ true → s .heard ≤ 257 → length (s .begun) ≡ 258 → Whole s
+whole-by s e q o l h n m = (
   (links-ends 16 (nexts (s .slots)) (s .free) (l .free), links-ends 16 (nexts (s .slots)) (s .waiting) (l .waiting)),
   (
     (p .free-chain, so-once (view s .free) (p .free-once)),
     (
       (p .waiting-chain, so-once (view s .waiting) (p .waiting-once)),
-      ((ap (λ (e : Engine). held-right (s .line) (e .slots)) q ∙ h, n), tt),
+      ((ap (λ (e : Engine). held-right (s .line) (e .slots)) q ∙ h, n, m), tt),
     ),
   ),
 )
@@ -120,6 +121,6 @@ whole-by s e q o l h n = (
 
 ---- an engine just made
 
-pub whole-fresh : (s : Slots) → s .slots ≡ fresh-slots → s .free ≡ 1 → s .waiting ≡ 0 → s .line ≡ Idle → s .heard ≡ 0 → Whole s
-whole-fresh s q f w l h =
-    whole-by s (view s) refl (made-sound (view s) (made-fresh s q f w l)) (linked-fresh s q f w) (ap (λ (k : Line). held-right k (view s .slots)) l) (omega arith)
+pub whole-fresh : (s : Slots) → s .slots ≡ fresh-slots → s .free ≡ 1 → s .waiting ≡ 0 → s .line ≡ Idle → s .heard ≡ 0 → length (s .begun) ≡ 258 → Whole s
+whole-fresh s q f w l h m =
+    whole-by s (view s) refl (made-sound (view s) (made-fresh s q f w l)) (linked-fresh s q f w) (ap (λ (k : Line). held-right k (view s .slots)) l) (omega arith) m

@@ -2,15 +2,24 @@
 use Prim.Native.Nat.{ℕ}
 use mathlib.Core.Path.{_≡_}
 use mathlib.Core.Bool.{cond}
-use lib.Dec.{ltb}
+use mathlib.Core.List.{List}
+use lib.Dec.{eqb, ltb}
+use lib.ListN.{length}
 use Rattle.std.specs.declared.option.Option.{Option}
 use Rattle.std.specs.declared.option.Option.the-variants.{Some, None}
 use Rattle.std.specs.declared.result.Result.{Result}
 use Rattle.std.specs.declared.result.Result.the-variants.{Ok, Err}
 use Rattle.slots.specs.declared.answer.Collected.{Collected}
+use Rattle.slots.specs.declared.answer.Answer.{Answer}
 use Rattle.slots.specs.declared.refusal.Refusal.{Refusal}
+use Rattle.slots.specs.declared.refusal.Refusal.the-variants.{MemorySize as WrongSize}
 use Rattle.slots.specs.Numbers.{refusal-number}
-use Rattle.table.specs.Calls.{Request as Asked}
+use Rattle.bus.specs.declared.Shown.{Shown}
+use Rattle.bus.specs.Calls.{Call, Reply}
+use Rattle.table.specs.Engine.{Engine}
+use Rattle.table.specs.Script.{Plays}
+use Rattle.table.specs.Table.{step}
+use Rattle.table.specs.Calls.{Request as Asked, When}
 use Rattle.slots.specs.declared.command.Command.{Command}
 use Rattle.slots.specs.declared.slot.Slots.{Slots}
 use Rattle.engine.specs.declared.size.MemorySize.{MemorySize}
@@ -57,3 +66,11 @@ collected-told (Err p) = Err (refusal-number (p .0))
 abbrev pub Given-back : Result Collected (Refusal × Ticket) → Ticket → Type 0
 Given-back (Ok c) t = Unit {0}
 Given-back (Err p) t = p .1 ≡ t
+
+---- step
+
+-- number 8 where the memory has not the stated size, and nothing is changed; else a row of the table
+abbrev pub Stepped : {B : Type 0} → (B → Shown) → (B → Call → Reply → B → Type 0) → Engine → B → List ℕ → Result Answer Refusal → Engine → B → List ℕ → Type 0
+Stepped see did e b m r e′ b′ m′ = When (eqb (length m) (e .size))
+    ((a : Answer) × (r ≡ Ok a) × Plays see did (step e) b m a e′ b′ m′)
+    ((r ≡ Err WrongSize) × (e′ ≡ e) × (b′ ≡ b) × (m′ ≡ m))

@@ -1,2 +1,4 @@
 pub mod Whole
+pub mod Fields
 pub mod Answers
+pub mod Lawfully

@@ -4,6 +4,7 @@ use mathlib.Core.Path.{_≡_}
 use mathlib.Core.Bool.{Bool, true, false, cond, _&&_, not}
 use mathlib.Core.List.{List, [], _∷_}
 use lib.Dec.{eqb}
+use lib.ListN.{length}
 use Rattle.slots.specs.declared.slot.State.{State}
 use Rattle.slots.specs.declared.slot.State.the-variants.{Free, Waiting, Connected, Away, Finished}
 use Rattle.slots.specs.declared.slot.Slots.{Slots}
@@ -49,6 +50,6 @@ Free-chain s = ((k : ℕ) → stands-on k (view s .free) ≡ (numbered k && not 
 abbrev pub Waiting-chain : Slots → Type 0
 Waiting-chain s = ((k : ℕ) → stands-on k (view s .waiting) ≡ is-waiting (view s .slots k .state)) × (once (view s .waiting) ≡ true)
 
--- the slot that holds the line is connected, and a begun message is shorter than the longest one
+-- the slot that holds the line is connected, and a begun message is shorter than the longest one, for which there is room
 abbrev pub Line-kept : Slots → Type 0
-Line-kept s = (held-right (s .line) (view s .slots) ≡ true) × (s .heard ≤ 257)
+Line-kept s = (held-right (s .line) (view s .slots) ≡ true) × (s .heard ≤ 257) × (length (s .begun) ≡ 258)

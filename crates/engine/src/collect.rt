@@ -1,8 +1,9 @@
 // A finished command is collected.
 ghost use mathlib.Core.Path.{_≡_};
-ghost use Rattle.table.specs.Calls.{collect-answer, collect-engine};
+ghost use Rattle.table.specs.Calls.{collect-answer, collect-engine, Event};
 ghost use Rattle.table.specs.View.{view};
 ghost use Rattle.engine.specs.Answers.{collected-told, Given-back, Refused-changes-nothing};
+ghost use Rattle.engine.specs.Lawfully.{Lawful-beside};
 ghost use Rattle.slots.specs.Numbers.{byte-number};
 use crate::chains::is_numbered;
 use crate::state::Engine;
@@ -14,6 +15,16 @@ use slots::State;
 impl Engine {
     /// What a finished command came to; its slot is free again. Where it is not finished the ticket is given back.
     pub fn collect(&mut self, ticket: Ticket) -> Result<Collected, (Refusal, Ticket)>
+        ensures answer { λ r. ⌜ collected-told r ≡ collect-answer (view (now (self .entry) .state) .slots (ticket .slot) .state) (view (now (self .entry) .state) .slots (ticket .slot)) ⌝ }
+        ensures ticket { λ r. ⌜ Given-back r ticket ⌝ }
+        ensures after { λ _. ⌜ view (now (self .exit) .state) ≡ collect-engine (view (now (self .entry) .state) .slots (ticket .slot) .state) (ticket .slot) (view (now (self .entry) .state)) ⌝ }
+        ensures lawful { λ r. ⌜ Lawful-beside (Event.collect (ticket .slot) (collected-told r)) (view (now (self .entry) .state)) (view (now (self .exit) .state)) ⌝ }
+        ensures refused { λ r. ⌜ Refused-changes-nothing r (now (self .entry) .state) (now (self .exit) .state) ⌝ }
+    {
+        self.hand_back(ticket)
+    }
+
+    fn hand_back(&mut self, ticket: Ticket) -> Result<Collected, (Refusal, Ticket)>
         ensures answer { λ r. ⌜ collected-told r ≡ collect-answer (view (now (self .entry) .state) .slots (ticket .slot) .state) (view (now (self .entry) .state) .slots (ticket .slot)) ⌝ }
         ensures ticket { λ r. ⌜ Given-back r ticket ⌝ }
         ensures after { λ _. ⌜ view (now (self .exit) .state) ≡ collect-engine (view (now (self .entry) .state) .slots (ticket .slot) .state) (ticket .slot) (view (now (self .entry) .state)) ⌝ }

@@ -2,10 +2,18 @@
 mod chains;
 mod changes;
 mod collect;
+mod fault;
+mod general;
+mod greeted;
+mod hearing;
+mod held;
+mod idle;
 mod making;
+mod memory;
 mod request;
 mod size;
 mod state;
+mod step;
 mod submit;
 mod ticket;
 

@@ -5,9 +5,10 @@ ghost use lib.Dec.{ltb};
 ghost use Rattle.std.specs.Vec.{made};
 ghost use Rattle.std.specs.declared.option.Option.the-variants.{Some, None};
 ghost use Rattle.table.specs.Engine.{every, is-out, in-use};
-ghost use Rattle.table.specs.Calls.{manner-of, direction-of, command-asked, share, clear-by, clear-of, malformed, earlier-refusal, submit-answer, submit-engine};
+ghost use Rattle.table.specs.Calls.{manner-of, direction-of, command-asked, share, clear-by, clear-of, malformed, earlier-refusal, submit-answer, submit-engine, Event};
 ghost use Rattle.table.specs.View.{view, entry-of, command-of};
 ghost use Rattle.engine.specs.Answers.{asked, refusal-told, ticket-told, Refused-changes-nothing};
+ghost use Rattle.engine.specs.Lawfully.{Lawful-beside};
 use crate::chains::is_numbered;
 use crate::request::Request;
 use crate::state::Engine;
@@ -23,6 +24,15 @@ use slots::State;
 impl Engine {
     /// Accepts a command: it waits in a slot of its own, which the ticket names. The first test that fails refuses it.
     pub fn submit(&mut self, request: Request<'_>) -> Result<Ticket, Refusal>
+        ensures answer { λ r. ⌜ ticket-told r ≡ submit-answer (earlier-refusal (view (now (self .entry) .state)) (asked (request .entry))) (view (now (self .entry) .state)) ⌝ }
+        ensures after { λ _. ⌜ view (now (self .exit) .state) ≡ submit-engine (earlier-refusal (view (now (self .entry) .state)) (asked (request .entry))) (asked (request .entry)) (view (now (self .entry) .state)) ⌝ }
+        ensures lawful { λ r. ⌜ Lawful-beside (Event.submit (asked (request .entry)) (ticket-told r)) (view (now (self .entry) .state)) (view (now (self .exit) .state)) ⌝ }
+        ensures refused { λ r. ⌜ Refused-changes-nothing r (now (self .entry) .state) (now (self .exit) .state) ⌝ }
+    {
+        self.take_in(request)
+    }
+
+    fn take_in(&mut self, request: Request<'_>) -> Result<Ticket, Refusal>
         ensures answer { λ r. ⌜ ticket-told r ≡ submit-answer (earlier-refusal (view (now (self .entry) .state)) (asked (request .entry))) (view (now (self .entry) .state)) ⌝ }
         ensures after { λ _. ⌜ view (now (self .exit) .state) ≡ submit-engine (earlier-refusal (view (now (self .entry) .state)) (asked (request .entry))) (asked (request .entry)) (view (now (self .entry) .state)) ⌝ }
         ensures refused { λ r. ⌜ Refused-changes-nothing r (now (self .entry) .state) (now (self .exit) .state) ⌝ }

@@ -1,7 +1,8 @@
-ghost use Prim.Native.Nat.{ℕ};
+ghost use Prim.Native.Nat.{ℕ, _≤_};
 ghost use mathlib.Core.Path.{_≡_};
-ghost use mathlib.Core.Bool.{true};
+ghost use mathlib.Core.Bool.{true, false};
 ghost use mathlib.Core.List.{List, [], _∷_};
+ghost use lib.ListN.{length};
 ghost use Rattle.std.specs.Options.{isSome};
 ghost use Rattle.scsi.specs.Messages.{one, body-length, permits-leave, lun-of, read-of};
 ghost use Rattle.scsi.specs.Borrowed.{meant, told};
@@ -30,9 +31,10 @@ pub enum Message<'a> {
     Other(u8),
 }
 
-/// The message that `bytes` begin with, and what follows it; none where it is unfinished.
+/// The message that `bytes` begin with, and what follows it; none where it is unfinished, and then there are at most 257 bytes.
 pub fn read(bytes: &[u8]) -> Option<(Message<'_>, &[u8])>
-    ensures { λ r. ⌜ told r ≡ read-of (now (bytes .entry)) ⌝ }
+    ensures message { λ r. ⌜ told r ≡ read-of (now (bytes .entry)) ⌝ }
+    ensures unfinished { λ r. ⌜ (isSome (told r) ≡ false → length (now (bytes .entry)) ≤ 257) ⌝ }
 {
     match bytes {
         [0x01, 0x03, 0x01, period, offset, rest @ ..] => Some((
@@ -55,7 +57,8 @@ pub fn read(bytes: &[u8]) -> Option<(Message<'_>, &[u8])>
 
 /// How long an extended message's body is, by its length byte.
 fn body_length(length_byte: u8) -> usize
-    ensures { λ r. ⌜ r ≡ body-length «length_byte» ⌝ }
+    ensures length { λ r. ⌜ r ≡ body-length «length_byte» ⌝ }
+    ensures small { λ r. ⌜ r ≤ 256 ⌝ }
 {
     if length_byte == 0 {
         256

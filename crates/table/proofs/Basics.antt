@@ -107,6 +107,40 @@ seek-none (suc n) p h k a b = go (seek n p) (p (suc n)) refl refl (λ e. seek-no
         at true q = subst (λ (i : ℕ). p i ≡ false) (sym (eqb-true k (suc n) q)) f
         at false q = let ne = eqb-false k (suc n) q in ih e (omega arith)
 
+-- a walk to the first of the slots 1 to 16 that passes, before slot k
+module _ (p : ℕ → Bool) where
+  pub seek-start : seek 0 p ≡ None
+  unfolding seek
+  seek-start = refl
+
+  seek-next : (n : ℕ) (t : Bool) → seek n p ≡ None → p (suc n) ≡ t → seek (suc n) p ≡ cond t (Some (suc n)) None
+  unfolding seek
+  seek-next n t h g = ap (λ (o : Option ℕ). or-else o (cond (p (suc n)) (Some (suc n)) None)) h ∙ ap (λ (t : Bool). cond t (Some (suc n)) None) g
+
+  seek-stays : (k n d : ℕ) → seek n p ≡ Some k → seek (d + n) p ≡ Some k
+  unfolding seek
+  seek-stays k n zero h = let e : n ≡ 0 + n = omega arith in subst (λ (m : ℕ). seek m p ≡ Some k) e h
+  seek-stays k n (suc d) h =
+      let e : suc (d + n) ≡ suc d + n = omega arith in
+      subst (λ (m : ℕ). seek m p ≡ Some k) e (ap (λ (o : Option ℕ). or-else o (cond (p (suc (d + n))) (Some (suc (d + n))) None)) (seek-stays k n d h))
+
+  pub seek-turn : (k : ℕ) → 1 ≤ k → seek (k - 1) p ≡ None → p k ≡ false → seek (k + 1 - 1) p ≡ None
+  seek-turn k a h g =
+      let here : k ≡ suc (k - 1) = omega arith in
+      let on : suc (k - 1) ≡ k + 1 - 1 = omega arith in
+      subst (λ (n : ℕ). seek n p ≡ None) on (seek-next (k - 1) false h (subst (λ (n : ℕ). p n ≡ false) here g))
+
+  pub seek-found : (k : ℕ) → 1 ≤ k → k ≤ 16 → seek (k - 1) p ≡ None → p k ≡ true → seek 16 p ≡ Some k
+  seek-found k a b h g =
+      let here : k ≡ suc (k - 1) = omega arith in
+      let on : suc (k - 1) ≡ k = omega arith in
+      let all : (16 - k) + suc (k - 1) ≡ 16 = omega arith in
+      subst (λ (n : ℕ). seek n p ≡ Some k) all
+      (seek-stays k (suc (k - 1)) (16 - k) (seek-next (k - 1) true h (subst (λ (n : ℕ). p n ≡ true) here g) ∙ ap (λ (n : ℕ). Some n) on))
+
+  pub seek-end : (k : ℕ) → 16 < k → k ≤ 17 → seek (k - 1) p ≡ None → seek 16 p ≡ None
+  seek-end k a b h = let e : k - 1 ≡ 16 = omega arith in subst (λ (n : ℕ). seek n p ≡ None) e h
+
 pub first-of-some : (ks : List ℕ) (p : ℕ → Bool) (k : ℕ) → first-of ks p ≡ Some k → (stands-on k ks ≡ true) × (p k ≡ true)
 unfolding first-of stands-on
 first-of-some [] p k h = let z : _≡_ {A = ℕ} 0 1 = cc in absurd (omega arith)
