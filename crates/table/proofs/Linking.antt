@@ -100,10 +100,6 @@ module _ (s : Slots) (n : length (s .slots) ≡ 16) (h : Linked s) (o : Sound (v
     unwaiting : stands-on k (view s .waiting) ≡ false
     unwaiting = off-waiting k (ap is-waiting (free-is _ (here-free .1)))
 
-    -- the head of the free chain, and the next of it
-    pub free-head : s .free ≡ k
-    free-head = head-free .0
-
     -- the waiting chain was empty
     module _ (e : view s .waiting ≡ []) where
       abbrev first-fields : Slots

@@ -27,10 +27,6 @@ pub was-sent : (t : Bool) (o : Option (List ℕ)) (bs d : List ℕ) → o ≡ co
 was-sent true o bs d p q = (refl, cc)
 was-sent false o bs d p q = let z : _≡_ {A = ℕ} 0 1 = cc in absurd (omega arith)
 
-pub not-sent : (t : Bool) (o : Option (List ℕ)) (bs : List ℕ) → o ≡ cond t (Some bs) None → o ≡ None → t ≡ false
-not-sent true o bs p q = let z : _≡_ {A = ℕ} 0 1 = cc in absurd (omega arith)
-not-sent false o bs p q = refl
-
 pub no-status : {A : Type 0} (o : Option ℕ) (st : ℕ) → o ≡ None → o ≡ Some st → A
 no-status o st p q = let z : _≡_ {A = ℕ} 0 1 = cc in absurd (omega arith)
 

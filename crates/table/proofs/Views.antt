@@ -9,16 +9,15 @@ use lib.ListN.{length, getD, set, take}
 use lib.Seq.{getD-set-same, getD-set-other}
 use Rattle.std.proofs.shelf.Tests.{eqb-true, eqb-false}
 use Rattle.slots.specs.declared.line.Line.{Line as Kept-line}
-use Rattle.slots.specs.declared.line.Line.the-variants.{Idle, Held}
+use Rattle.slots.specs.declared.line.Line.the-variants.{Idle}
 use Rattle.slots.specs.declared.slot.Slot.{Slot}
 use Rattle.slots.specs.declared.slot.Slots.{Slots}
 use Rattle.slots.specs.declared.slot.State.{State}
 use Rattle.slots.specs.declared.slot.State.the-variants.{Free, Finished}
 use Rattle.slots.specs.declared.slot.Outcome.the-variants.{Reset}
 use Rattle.std.specs.declared.option.Option.the-variants.{None}
-use Rattle.table.specs.Engine.{Entry, Just-made, all-numbers, Line, idle, held, numbered, is-open, put-slot, set-slot, with-state, reset-where}
-use Rattle.bus.specs.declared.Shown.{Shown}
-use Rattle.table.specs.Table.{cleared, on-held, row}
+use Rattle.table.specs.Engine.{Just-made, all-numbers, idle, numbered, is-open, put-slot, set-slot, with-state, reset-where}
+use Rattle.table.specs.Table.{cleared}
 use Rattle.table.specs.Calls.{open-or-waiting, reset-engine}
 use Rattle.table.specs.View.{entry-of, no-slot, slot-at, entries, nexts, chain, line-of, view, Linked, Links, fresh-slot, fresh-slots, reset-slot}
 use Rattle.table.proofs.Basics.{is-numbered, numbered-is}
@@ -211,16 +210,3 @@ module _ (s : Slots) (q : s .slots ≡ fresh-slots) (f : s .free ≡ 1) (w : s .
       go : (k : ℕ) (t : Bool) → cond t (entry-of (slot-at fresh-slots k)) (entry-of no-slot) .state ≡ Free
       go k true = fresh-free (2 ∷ 3 ∷ 4 ∷ 5 ∷ 6 ∷ 7 ∷ 8 ∷ 9 ∷ 10 ∷ 11 ∷ 12 ∷ 13 ∷ 14 ∷ 15 ∷ 16 ∷ 0 ∷ []) (k - 1)
       go k false = refl
-
----- the row of a held line, by the slot's own entry
-
-pub row-held : (s : Slots) (k : ℕ) (z : Shown) → 1 ≤ k → k ≤ 16 → s .line ≡ Held k
-    → row (view s) (view s .line) z ≡ on-held (view s) k (entry-of (slot-at (s .slots) k)) (take (s .heard) (s .begun)) z
-row-held s k z lo hi q =
-    ap (λ (l : Line). row (view s) l z) line-is
-    ∙ ap (λ (x : Entry). on-held (view s) k x (take (s .heard) (s .begun)) z) (entry-here (s .slots) k lo hi)
-  where
-    line-is : view s .line ≡ held k (take (s .heard) (s .begun))
-    line-is =
-        ap (λ (l : Kept-line). line-of l (take (s .heard) (s .begun))) q
-        ∙ ap (λ (t : Bool). cond t (held k (take (s .heard) (s .begun))) idle) (is-numbered k lo hi)
