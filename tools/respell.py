@@ -8,7 +8,8 @@ Names of the library, names that Rattle makes itself, code, strings and comments
 import os
 import re
 
-NAME = r"[^\W\d][\w']*(?:-[\w']+)+"
+# a name in several words: with hyphens, or a capital and an underscore, as port.py left one
+NAME = r"(?:[^\W\d][\w']*(?:-[\w']+)+|[A-Z][a-z0-9]+_[a-z]\w*)"
 HYPHENED = re.compile(r"(?<![\w'-])" + NAME + r"(?![\w'-])")
 IMPORT = re.compile(r"use ([\w.]+)\.\{([^}]*)\}")
 LIBRARY = ("Rattle.std", "Rattle.core", "mathlib", "lib.", "Prim")
@@ -17,7 +18,7 @@ GHOST = re.compile(r"^\s*(ghost |requires|ensures|let .*:\s*ghost)")
 
 def respelled(name):
     if name[0].isupper():
-        return "".join(part[:1].upper() + part[1:] for part in name.split("-"))
+        return "".join(part[:1].upper() + part[1:] for part in re.split("[-_]", name))
     return name.replace("-", "_")
 
 

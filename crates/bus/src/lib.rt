@@ -1,4 +1,6 @@
 // A cable's bus as the initiator meets it: what it shows, the calls on it, what it means, and its rules.
+#![tactic(auto)]
+
 ghost use Rattle.std.specs.Prelude.{◌≡◌, true};
 ghost use Rattle.shelf.specs.Laws.{Laws};
 ghost use Rattle.bus.specs.State.{BusState};

@@ -1,4 +1,6 @@
 // One command at a time over any bus, by bus calls alone.
+#![tactic(auto)]
+
 ghost use Rattle.std.specs.Prelude.{◌≡◌, ◌%◌, ◌<◌, ◌≤◌, false, [], IfOk, None, Err};
 ghost use Rattle.shelf.specs.Model.{Model};
 ghost use Rattle.bus.specs.State.{Name, AtRest};

@@ -1,4 +1,6 @@
 // Tests of the devices on examples, with what is due worked out by hand.
+#![tactic(auto)]
+
 #[cfg(test)]
 mod disk;
 #[cfg(test)]

@@ -1,4 +1,6 @@
 // Devices for a shelf: a disk, a film recorder, and two shelves as one.
+#![tactic(auto)]
+
 mod device;
 mod disk;
 mod film;

@@ -13,7 +13,7 @@ use Rattle.table.proofs.States.{waiting_is, idle_unheld, held_is}
 use Rattle.table.proofs.Walks.{chain_cons, chain_none}
 use Rattle.table.proofs.Linking.{view_unlink_head, linked_unlink_head, view_unlink, linked_unlink, view_off, linked_off}
 use Rattle.table.proofs.Regions.{unlink_sound}
-use Rattle.engine.specs.Fields.{WaitingAt, Goes_on, line_for}
+use Rattle.engine.specs.Fields.{WaitingAt, GoesOn, line_for}
 use Rattle.engine.specs.Whole.{is_connected, held_right}
 use Rattle.engine.specs.declared.state.Engine.{Engine as Kept}
 use Rattle.engine.proofs.Whole.{Whole, whole_by, linked_of, sound_of, connected_is}
@@ -34,7 +34,7 @@ head_numbered s k h = go (numbered s.waiting) refl
     go true e = e
     go false e = wrong _ h (ap (stands_on k) (chain_none 16 (nexts s.slots) s.waiting e) ∙ nobody k)
 
-module _ (e : Kept) (n : length e.state.slots ≡ 16) (k : ℕ) (x : Slot) (l : Line) (w : WaitingAt e.state k) (g : Goes_on k x l) where
+module _ (e : Kept) (n : length e.state.slots ≡ 16) (k : ℕ) (x : Slot) (l : Line) (w : WaitingAt e.state k) (g : GoesOn k x l) where
   abbrev s : Slots
   s = e.state
 

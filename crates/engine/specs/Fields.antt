@@ -61,7 +61,7 @@ line_for (TagDue u l) k t = false
 line_for (Held j) k t = j == k && is_connected t
 
 -- x is what becomes of slot k as it leaves the waiting chain
-pub record Goes_on (k : ℕ) (x : Slot) (l : Line) : Type 0 where
+pub record GoesOn (k : ℕ) (x : Slot) (l : Line) : Type 0 where
   pub used : in_use x.state ≡ true
   pub gone : is_waiting x.state ≡ false
   pub line_right : line_for l k x.state ≡ true

@@ -4,7 +4,7 @@ ghost use Rattle.table.specs.Engine.{held, idle, in_use, is_waiting, is_open, se
 ghost use Rattle.table.specs.Table.{cleared};
 ghost use Rattle.table.specs.Calls.{just_accepted, taken_in, put_back};
 ghost use Rattle.table.specs.View.{view, entry_of, command_of, line_of, reset_slot};
-ghost use Rattle.engine.specs.Fields.{OpenAt, ConnectedAt, WaitingAt, Goes_on, unheld};
+ghost use Rattle.engine.specs.Fields.{OpenAt, ConnectedAt, WaitingAt, GoesOn, unheld};
 
 use crate::chains::{before, is_numbered};
 use crate::state::Engine;
@@ -104,7 +104,7 @@ impl Engine {
     // Slot `k` leaves the waiting chain, and is changed, and the line.
     pub(crate) fn unqueue(&mut self, k: u8, slot: Slot, line: Line)
         requires waiting_at { WaitingAt self.old.state k }
-        requires goes_on { Goes_on k slot line }
+        requires goes_on { GoesOn k slot line }
         ensures { view self.new.state ≡ unlink_slot k (entry_of slot) (line_of line []) (view self.old.state) }
     {
         let mut changed = slot;
@@ -119,7 +119,7 @@ impl Engine {
 
     fn unqueue_head(&mut self, k: u8, slot: Slot, line: Line)
         requires waiting_at { WaitingAt self.old.state k }
-        requires goes_on { Goes_on k slot line }
+        requires goes_on { GoesOn k slot line }
         requires waiting_value { self.old.state.waiting ≡ k }
         ensures { view self.new.state ≡ unlink_slot k (entry_of slot) (line_of line []) (view self.old.state) }
     {
@@ -131,7 +131,7 @@ impl Engine {
 
     fn unqueue_later(&mut self, head: u8, k: u8, slot: Slot, line: Line)
         requires waiting_at { WaitingAt self.old.state k }
-        requires goes_on { Goes_on k slot line }
+        requires goes_on { GoesOn k slot line }
         requires waiting_value { self.old.state.waiting ≡ head }
         requires head_nonzero { head ≢ k }
         ensures { view self.new.state ≡ unlink_slot k (entry_of slot) (line_of line []) (view self.old.state) }

@@ -1,4 +1,6 @@
 //! The initiator's engine: it accepts commands, steps them over a bus, and hands back what they came to.
+#![tactic(auto)]
+
 mod chains;
 mod changes;
 mod collect;

@@ -1,4 +1,6 @@
 //! Tests of the crate `scsi`, as tables: what goes in, and by hand what comes out.
+#![tactic(auto)]
+
 #[cfg(test)]
 mod commands;
 #[cfg(test)]

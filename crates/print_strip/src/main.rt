@@ -1,5 +1,7 @@
 // Prints a strip over one cable: writes it to a disk block by block, reads it back, compares it, and prints it on film;
 // first over a strict bus, then over a whim bus, on which commands are interrupted, let go and resumed.
+#![tactic(auto)]
+
 mod interrupted;
 
 use anyhow::anyhow;

@@ -1,4 +1,6 @@
 //! The words of a SCSI-2 cable: its messages, the greeting that opens a nexus, and the lengths of commands.
+#![tactic(auto)]
+
 mod cdb;
 mod command;
 mod greeting;

@@ -1,4 +1,6 @@
 // The set of units behind a bus: what a shelf means, the laws that every shelf shows, and the serving of one command.
+#![tactic(auto)]
+
 ghost use Rattle.std.specs.Prelude.{◌≡◌};
 ghost use Rattle.shelf.specs.Model.{Model, is_present, way_of, count_of, byte_of, status_of, finished};
 ghost use Rattle.shelf.specs.Laws.{Laws};

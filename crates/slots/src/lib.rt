@@ -1,4 +1,6 @@
 //! The plain types of the initiator's engine: commands, slots, the line, and what its calls answer.
+#![tactic(auto)]
+
 mod answer;
 mod command;
 mod line;

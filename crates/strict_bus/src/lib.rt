@@ -1,4 +1,6 @@
 // The strict bus, over any shelf.
+#![tactic(auto)]
+
 mod calls;
 mod state;
 

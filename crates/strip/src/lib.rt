@@ -1,4 +1,6 @@
 // A strip of image data, and the orders that carry it to a disk, back, and onto film.
+#![tactic(auto)]
+
 mod image;
 mod orders;
 

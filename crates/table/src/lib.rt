@@ -1,4 +1,6 @@
 //! The step table of the initiator's engine, its calls, and what holds of every list of them: definitions and proofs.
+#![tactic(auto)]
+
 ghost use Rattle.table.specs.Guarantee.{EveryListKeeps, EveryCallIsLawful, DoneIsReached};
 ghost use Rattle.table.specs.Sound.{SoundOnEveryBus};
 ghost use Rattle.table.specs.Regions.{KeepsToRegions, StepWritesInside, RunWritesInside};

@@ -1,4 +1,6 @@
 // The whim bus, over any shelf.
+#![tactic(auto)]
+
 mod calls;
 mod changes;
 mod rows;

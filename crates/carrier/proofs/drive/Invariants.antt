@@ -7,7 +7,7 @@ use Rattle.carrier.proofs.drive.Given as goal
 
 abbrev pub invariant-loop : goal.invariant-loop
 invariant-loop g l =
-    KeptFrom l.so-far.moved l.initial.into l.into
-    × (l.so-far.complete ≡ false)
+    KeptFrom l.so_far.moved l.initial.into l.into
+    × (l.so_far.complete ≡ false)
     × ((m : Model) (n : Name) → Going m n l.command l.out begun l.initial.into (g.B.Bus.means l.initial.bus)
-    → Going m n l.command l.out l.so-far l.into (g.B.Bus.means l.bus))
+    → Going m n l.command l.out l.so_far l.into (g.B.Bus.means l.bus))

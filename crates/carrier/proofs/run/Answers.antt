@@ -10,7 +10,7 @@ returns-in-Ok-Selected g c =
     record {
       kept = c.drive.ensures.kept;
       ends = λ r. c.drive.ensures.ends _ _
-          (began _ _ _ _ _ _ _ _ _ refl r (g.met.B.Bus.shows _ r.order) (ap greeting_of c.as-slice.ensures ∙ c.bytes.ensures.understood) is (g.met.B.Bus.keeps _ _ _ _ c.select.ensures));
+          (began _ _ _ _ _ _ _ _ _ refl r (g.met.B.Bus.shows _ r.order) (ap greeting_of c.as_slice.ensures ∙ c.bytes.ensures.understood) is (g.met.B.Bus.keeps _ _ _ _ c.select.ensures));
     }
 
 pub returns-in-Ok-Lost : goal.returns-in-Ok-Lost

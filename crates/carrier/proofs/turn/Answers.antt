@@ -22,7 +22,7 @@ returns-in-Ok-give g c =
       further = search rules;
       kept = search rules;
       goes = λ m n e h. goes_on m n _ _ _ _ _ e
-          (gave m n _ _ _ _ _ _ _ h (sym c.look.ensures ∙ c.in-DataOut.is) (g.met.B.Bus.shows _ h.order) c.if-so-far-out.false refl (g.met.B.Bus.keeps _ _ _ _ c.in-Ok-give.ensures));
+          (gave m n _ _ _ _ _ _ _ h (sym c.look.ensures ∙ c.in-DataOut.is) (g.met.B.Bus.shows _ h.order) c.if-so_far-out.false refl (g.met.B.Bus.keeps _ _ _ _ c.in-Ok-give.ensures));
     }
 
 pub returns-in-Ok-take : goal.returns-in-Ok-take
@@ -31,7 +31,7 @@ returns-in-Ok-take g c =
       further = search rules;
       kept = search rules;
       goes = λ m n e h. goes_on m n _ _ _ _ _ e
-          (took_byte m n _ _ _ _ _ _ _ _ h (sym c.look.ensures ∙ c.in-DataIn.is) (g.met.B.Bus.shows _ h.order) c.if-so-far-into.false (g.met.B.Bus.keeps _ _ _ _ c.in-Ok-take.ensures));
+          (took_byte m n _ _ _ _ _ _ _ _ h (sym c.look.ensures ∙ c.in-DataIn.is) (g.met.B.Bus.shows _ h.order) c.if-so_far-into.false (g.met.B.Bus.keeps _ _ _ _ c.in-Ok-take.ensures));
     }
 
 pub returns-in-Ok-take-2 : goal.returns-in-Ok-take-2
@@ -48,7 +48,7 @@ returns-in-Ok-take-3 g c =
     record {
       further = search rules;
       kept = search rules;
-      goes = λ m n e h. completed_turn m n _ _ _ _ _ _ _ h (sym c.look.ensures ∙ c.in-MessageIn.is ∙ ap MessageIn c.if-message-ne-COMMAND-COMPLETE.false) (g.met.B.Bus.shows _ h.order) (g.met.B.Bus.keeps _ _ _ _ c.in-Ok-take-3.ensures);
+      goes = λ m n e h. completed_turn m n _ _ _ _ _ _ _ h (sym c.look.ensures ∙ c.in-MessageIn.is ∙ ap MessageIn c.if-message-ne-COMMAND_COMPLETE.false) (g.met.B.Bus.shows _ h.order) (g.met.B.Bus.keeps _ _ _ _ c.in-Ok-take-3.ensures);
     }
 
 pub returns-in-Pause : goal.returns-in-Pause

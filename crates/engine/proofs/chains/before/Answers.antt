@@ -25,16 +25,16 @@ spent : (xs : List Slot) (k d n x : ℕ) → n ≡ 0 → before k d (chain n (ne
 unfolding chain
 spent xs k d n x z h = subst (λ (n : ℕ). before k d (chain n (nexts xs) (nexts xs d)) ≡ x) z h
 
-pub returns-then-not-is-numbered : goal.returns-then-not-is-numbered
-returns-then-not-is-numbered c = record {
+pub returns-then-not-is_numbered : goal.returns-then-not-is_numbered
+returns-then-not-is_numbered c = record {
   slot = stops c.args.slots.now c.args.k c.loop-turn.at c.loop-turn.turn _ c.loop-turn.invariant.0 c.loop-turn-test.true c.loop-turn.invariant.1
-      (elim c.then-not-is-numbered.either [ inl f ↦ inl (sym c.is_numbered.ensures ∙ f) | inr p ↦ inr p.1 ]);
+      (elim c.then-not-is_numbered.either [ inl f ↦ inl (sym c.is_numbered.ensures ∙ f) | inr p ↦ inr p.1 ]);
   numbered = c.loop-turn.invariant.0;
 }
 
 pub loop-turn-preserved : goal.loop-turn-preserved
 loop-turn-preserved c =
-    let m : numbered (slot_at c.args.slots.now c.loop-turn.at).next ≡ true = sym c.is_numbered.ensures ∙ c.if-not-is-numbered.false in
+    let m : numbered (slot_at c.args.slots.now c.loop-turn.at).next ≡ true = sym c.is_numbered.ensures ∙ c.if-not-is_numbered.false in
     (m, goes c.args.slots.now c.args.k c.loop-turn.at c.loop-turn.turn _ c.loop-turn.invariant.0 c.loop-turn-test.true c.loop-turn.invariant.1 m c.if-next-k.false)
 
 pub returns : goal.returns

@@ -17,11 +17,11 @@ module _ (bs : List ℕ) (h v : ℕ) (n : length bs ≡ 258) (s : h ≤ 257) whe
   below : length (take (h + 1) (set bs h v)) ≤ 257 → h < 257
   below l = let a = as_long in omega (arith, a, l)
 
-pub slice-bounds-bytes-end : goal.slice-bounds-bytes-end
-slice-bounds-bytes-end c = inside c.args.begun.now c.args.heard c.args.byte (search rules) c.requires
+pub slice_bounds-bytes-end : goal.slice_bounds-bytes-end
+slice_bounds-bytes-end c = inside c.args.begun.now c.args.heard c.args.byte (search rules) c.requires
 
-pub slice-bounds-comes-to-end : goal.slice-bounds-comes-to-end
-slice-bounds-comes-to-end c = as_long c.args.begun.now c.args.heard c.args.byte (search rules) c.requires
+pub slice_bounds-comes_to-end : goal.slice_bounds-comes_to-end
+slice_bounds-comes_to-end c = as_long c.args.begun.now c.args.heard c.args.byte (search rules) c.requires
 
 pub returns : goal.returns
 returns c = record {

@@ -27,8 +27,8 @@ pub returns : goal.returns
 returns c =
     let r = asked c.args.request in
     let b = some_is _ r.bytes (well_sized r.bytes) c.in-Some.ensures in
-    let m = some-not _ (manner_of r.manner) (ltb 2 r.manner) c.in-Some-manner-of.ensures in
-    let d = some-not _ (direction_of r.direction) (ltb 2 r.direction) c.in-Some-direction-of.ensures in
+    let m = some-not _ (manner_of r.manner) (ltb 2 r.manner) c.in-Some-manner_of.ensures in
+    let d = some-not _ (direction_of r.direction) (ltb 2 r.direction) c.in-Some-direction_of.ensures in
     record {
       refused = none-fails _ _ (well_sized r.bytes) _ (le-ltb _ _ c.if-request-gt6.false) (le-ltb _ _ c.if-request-gt7.false) b.0
           (or_from (ltb 2 r.manner) _ m.0 (or_from (ltb 2 r.direction) _ d.0 (no-region r.direction r.length c.else-request-eq0.either)));

@@ -13,11 +13,11 @@ returns-in-33-to-47 c = grind (arith, nat_tests, cut 2 c.args.bytes.now)
 pub returns-in-32 : goal.returns-in-32
 returns-in-32 c = grind (arith, nat_tests, cut 2 c.args.bytes.now)
 
-pub returns-in-ok-body : goal.returns-in-ok-body
-returns-in-ok-body c = grind (arith, nat_tests, cut 2 c.args.bytes.now, length-take, get_or-take)
+pub returns-in_ok-body-in-1-2 : goal.returns-in_ok-body-in-1-2
+returns-in_ok-body-in-1-2 c = grind (arith, nat_tests, cut 2 c.args.bytes.now, length-take, get_or-take)
 
-pub returns-in-err-body : goal.returns-in-err-body
-returns-in-err-body c = grind (arith, nat_tests, cut 2 c.args.bytes.now)
+pub returns-in_err-body-in-1-2 : goal.returns-in_err-body-in-1-2
+returns-in_err-body-in-1-2 c = grind (arith, nat_tests, cut 2 c.args.bytes.now)
 
 pub returns-in-len1-up : goal.returns-in-len1-up
 returns-in-len1-up c = grind (arith, nat_tests, cut 1 c.args.bytes.now)

@@ -27,20 +27,20 @@ spent : (xs : List Slot) (p : ℕ → Bool) (k n : ℕ) (x : Option ℕ) → n �
 unfolding chain first_of
 spent xs p k n x z h = subst (λ (n : ℕ). first_of (chain n (nexts xs) k) p ≡ x) z h
 
-pub returns-then-not-is-numbered : goal.returns-then-not-is-numbered
-returns-then-not-is-numbered c =
+pub returns-then-not-is_numbered : goal.returns-then-not-is_numbered
+returns-then-not-is_numbered c =
     over c.args.self.now.state.slots (eligible (view c.args.self.now.state)) c.loop-turn.k c.loop-turn.turn _ c.loop-turn-test.true c.loop-turn.invariant
-    (sym c.is_numbered.ensures ∙ c.if-not-is-numbered.true)
+    (sym c.is_numbered.ensures ∙ c.if-not-is_numbered.true)
 
-pub returns-then-is-eligible : goal.returns-then-is-eligible
-returns-then-is-eligible c =
+pub returns-then-is_eligible : goal.returns-then-is_eligible
+returns-then-is_eligible c =
     found c.args.self.now.state.slots (eligible (view c.args.self.now.state)) c.loop-turn.k c.loop-turn.turn _ c.loop-turn-test.true c.loop-turn.invariant
-    (sym c.is_numbered.ensures ∙ c.if-not-is-numbered.false) (sym c.is-eligible.ensures ∙ c.if-is-eligible.true)
+    (sym c.is_numbered.ensures ∙ c.if-not-is_numbered.false) (sym c.is_eligible.ensures ∙ c.if-is_eligible.true)
 
 pub loop-turn-preserved : goal.loop-turn-preserved
 loop-turn-preserved c =
     goes c.args.self.now.state.slots (eligible (view c.args.self.now.state)) c.loop-turn.k c.loop-turn.turn _ c.loop-turn-test.true c.loop-turn.invariant
-    (sym c.is_numbered.ensures ∙ c.if-not-is-numbered.false) (sym c.is-eligible.ensures ∙ c.if-is-eligible.false)
+    (sym c.is_numbered.ensures ∙ c.if-not-is_numbered.false) (sym c.is_eligible.ensures ∙ c.if-is_eligible.false)
 
 pub returns : goal.returns
 returns c =

@@ -7,7 +7,7 @@ use Rattle.engine.proofs.state.Engine.greeted_step.Goals as goal
 pub returns-in-MessageIn : goal.returns-in-MessageIn
 returns-in-MessageIn g c = λ m. plays_as (λ b. (g.B.Bus.means b).shown) g.B.Bus.did _ _
     (ap (message_row (view c.args.self.now.state) (greeted_byte (view c.args.self.now.state) c.args.target)) (sym c.in-MessageIn.is))
-    c.args.bus.now m c.lun-byte.result (view c.lun-byte.new.self.state) c.lun-byte.new.bus m (c.lun-byte.ensures m)
+    c.args.bus.now m c.lun_byte.result (view c.lun_byte.new.self.state) c.lun_byte.new.bus m (c.lun_byte.ensures m)
 
-pub returns-in-default : goal.returns-in-default
-returns-in-default g c = λ m. c.no-message.ensures (greeted_byte (view c.args.self.now.state) c.args.target) m
+pub returns-in_default : goal.returns-in_default
+returns-in_default g c = λ m. c.no_message.ensures (greeted_byte (view c.args.self.now.state) c.args.target) m

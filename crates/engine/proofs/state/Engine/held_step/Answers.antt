@@ -14,7 +14,7 @@ returns-then-self-eq0 g c =
     (ap (λ (n : ℕ). on_held e c.args.k (entry_of (slot_at c.args.self.now.state.slots c.args.k)) (take n c.args.self.now.state.begun) c.args.shown) (sym c.if-self-eq0.true)
     ∙ ap (λ (x : Entry). on_held e c.args.k x (take c.args.self.now.state.heard c.args.self.now.state.begun) c.args.shown)
     (sym (entry_here c.args.self.now.state.slots c.args.k c.requires.low c.requires.high)))
-    c.args.bus.now c.args.memory.now c.held-row.result (view c.held-row.new.self.state) c.held-row.new.bus c.held-row.new.memory c.held-row.ensures
+    c.args.bus.now c.args.memory.now c.held_row.result (view c.held_row.new.self.state) c.held_row.new.bus c.held_row.new.memory c.held_row.ensures
 
 pub returns-in-MessageIn : goal.returns-in-MessageIn
 returns-in-MessageIn g c =
@@ -26,12 +26,12 @@ returns-in-MessageIn g c =
     c.if-self-eq0.false c.args.self.now.line.2
     ∙ ap (λ (x : Entry). on_held e c.args.k x (take c.args.self.now.state.heard c.args.self.now.state.begun) c.args.shown)
     (sym (entry_here c.args.self.now.state.slots c.args.k c.requires.low c.requires.high)))
-    c.args.bus.now c.args.memory.now c.message-byte.result (view c.message-byte.new.self.state) c.message-byte.new.bus c.args.memory.now (c.message-byte.ensures c.args.memory.now)
+    c.args.bus.now c.args.memory.now c.message_byte.result (view c.message_byte.new.self.state) c.message_byte.new.bus c.args.memory.now (c.message_byte.ensures c.args.memory.now)
 
-pub returns-in-default : goal.returns-in-default
-returns-in-default g c =
+pub returns-in_default : goal.returns-in_default
+returns-in_default g c =
     let e = view c.args.self.now.state in
     plays_as (λ b. (g.B.Bus.means b).shown) g.B.Bus.did _ _
     (inside_message e c.args.k (e.slots c.args.k) c.args.self.now.state.begun c.args.self.now.state.heard c.args.shown c.if-self-eq0.false c.args.self.now.line.2)
-    c.args.bus.now c.args.memory.now c.no-message.result (view c.no-message.new.self.state) c.no-message.new.bus c.args.memory.now
-    (c.no-message.ensures (λ v. message_by e c.args.k (e.slots c.args.k) (take c.args.self.now.state.heard c.args.self.now.state.begun ++ v ∷ [])) c.args.memory.now)
+    c.args.bus.now c.args.memory.now c.no_message.result (view c.no_message.new.self.state) c.no_message.new.bus c.args.memory.now
+    (c.no_message.ensures (λ v. message_by e c.args.k (e.slots c.args.k) (take c.args.self.now.state.heard c.args.self.now.state.begun ++ v ∷ [])) c.args.memory.now)

@@ -1,8 +1,8 @@
 use Rattle.engine.proofs.Kept.{view_hold, whole_hold}
 use Rattle.engine.proofs.state.Engine.hold.Goals as goal
 
-pub invariant-of-self : goal.invariant-of-self
-invariant-of-self c = whole_hold c.args.self.now c.args.k c.requires
+pub invariant_of-self : goal.invariant_of-self
+invariant_of-self c = whole_hold c.args.self.now c.args.k c.requires
 
 pub returns : goal.returns
 returns c = view_hold c.args.self.now c.args.k c.requires

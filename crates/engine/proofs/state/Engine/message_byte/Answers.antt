@@ -32,5 +32,5 @@ returns-in-Some g c = λ m. (
   c.take.ensures,
   as-heard (λ b. (g.B.Bus.means b).shown) g.B.Bus.did (view c.args.self.now.state) c.args.k (entry_of c.args.slot)
       (take c.args.self.now.state.heard c.args.self.now.state.begun ++ c.args.byte ∷ []) c.heard-heard.result _ _ c.args.slot.status
-      c.heard-heard.ensures.heard (sym c.in-Some.is) _ m _ _ _ (c.after-status.ensures m _),
+      c.heard-heard.ensures.heard (sym c.in-Some.is) _ m _ _ _ (c.after_status.ensures m _),
 )

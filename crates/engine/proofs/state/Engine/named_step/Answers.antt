@@ -7,7 +7,7 @@ use Rattle.engine.proofs.state.Engine.named_step.Goals as goal
 pub returns-in-MessageIn : goal.returns-in-MessageIn
 returns-in-MessageIn g c = λ m. plays_as (λ b. (g.B.Bus.means b).shown) g.B.Bus.did _ _
     (ap (message_row (view c.args.self.now.state) (named_byte (view c.args.self.now.state) c.args.target c.args.lun)) (sym c.in-MessageIn.is))
-    c.args.bus.now m c.queue-byte.result (view c.queue-byte.new.self.state) c.queue-byte.new.bus m (c.queue-byte.ensures m)
+    c.args.bus.now m c.queue_byte.result (view c.queue_byte.new.self.state) c.queue_byte.new.bus m (c.queue_byte.ensures m)
 
-pub returns-in-default : goal.returns-in-default
-returns-in-default g c = λ m. c.no-message.ensures (named_byte (view c.args.self.now.state) c.args.target c.args.lun) m
+pub returns-in_default : goal.returns-in_default
+returns-in_default g c = λ m. c.no_message.ensures (named_byte (view c.args.self.now.state) c.args.target c.args.lun) m

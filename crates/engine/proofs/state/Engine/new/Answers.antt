@@ -4,8 +4,8 @@ use Rattle.table.proofs.Views.{made_fresh}
 use Rattle.engine.proofs.Whole.{whole_fresh}
 use Rattle.engine.proofs.state.Engine.new.Goals as goal
 
-pub invariant-of-result : goal.invariant-of-result
-invariant-of-result c = whole_fresh (record { slots = c.fresh_slots.result; free = 1; waiting = 0; line = Idle; begun = replicate {A = ℕ} 258 0; heard = 0; size = c.args.size.bytes }) c.fresh_slots.ensures refl refl refl refl refl
+pub invariant_of-result : goal.invariant_of-result
+invariant_of-result c = whole_fresh (record { slots = c.fresh_slots.result; free = 1; waiting = 0; line = Idle; begun = replicate {A = ℕ} 258 0; heard = 0; size = c.args.size.bytes }) c.fresh_slots.ensures refl refl refl refl refl
 
 pub returns : goal.returns
 returns c = record {

@@ -4,7 +4,7 @@ use Rattle.engine.proofs.state.Engine.step.Goals as goal
 
 pub returns : goal.returns
 returns g c = record {
-  stepped = c.try-row.ensures;
-  lawful = step_lawful g.B.Bus.means g.B.Bus.did g.met.B.Bus.keeps (view c.args.self.now.state) c.args.bus.now c.args.memory.now c.try-row.result
-      (view c.try-row.new.self.state) c.try-row.new.bus c.try-row.new.memory c.try-row.ensures;
+  stepped = c.try_row.ensures;
+  lawful = step_lawful g.B.Bus.means g.B.Bus.did g.met.B.Bus.keeps (view c.args.self.now.state) c.args.bus.now c.args.memory.now c.try_row.result
+      (view c.try_row.new.self.state) c.try_row.new.bus c.try_row.new.memory c.try_row.ensures;
 }

@@ -6,8 +6,8 @@ use Rattle.engine.proofs.state.Engine.unqueue_later.Goals as goal
 pub before-at-requires : goal.before-at-requires
 before-at-requires c = ap numbered (sym c.requires.2) ∙ head_numbered c.args.self.now.state c.args.k c.requires.0.waits
 
-pub invariant-of-self : goal.invariant-of-self
-invariant-of-self c = whole_unqueue_later c.args.self.now (search rules) c.args.k c.args.slot c.args.line c.requires.0 c.requires.1 c.args.head c.before-at.result c.requires.2 c.requires.3 c.before-at.ensures.slot
+pub invariant_of-self : goal.invariant_of-self
+invariant_of-self c = whole_unqueue_later c.args.self.now (search rules) c.args.k c.args.slot c.args.line c.requires.0 c.requires.1 c.args.head c.before-at.result c.requires.2 c.requires.3 c.before-at.ensures.slot
 
 pub returns : goal.returns
 returns c = view_unqueue_later c.args.self.now (search rules) c.args.k c.args.slot c.args.line c.requires.0 c.requires.1 c.args.head c.before-at.result c.requires.2 c.requires.3 c.before-at.ensures.slot

@@ -5,8 +5,8 @@ use Rattle.strict_bus.proofs.calls.StrictBusBus.give.Goals as goal
 pub bounds-self-self : goal.bounds-self-self
 bounds-self-self g c = omega (arith, c.in-DataOut.ensures.room refl)
 
-pub invariant-of-self : goal.invariant-of-self
-invariant-of-self g c = let r = c.in-DataOut.ensures.room refl in ((omega arith, omega arith), tt)
+pub invariant_of-self : goal.invariant_of-self
+invariant_of-self g c = let r = c.in-DataOut.ensures.room refl in ((omega arith, omega arith), tt)
 
 pub returns : goal.returns
 returns g c =

@@ -9,5 +9,5 @@ pub returns-in-Held : goal.returns-in-Held
 returns-in-Held g c =
     let s = c.args.self.now in
     on_held (ending c.args.status) s.line c.in-Held.k (whim_of (g.S.Shelf.model s.shelf) s.rows s.out s.line s.whims s.at s.draw) _ c.in-Held.is
-    (change_view (g.S.Shelf.model s.shelf) s.rows s.out s.line s.whims s.at s.draw c.in-Held.k (ending c.args.status) c.row-at-row.result _ c.put-row.new.rows c.row-at-row.ensures c.put-row.ensures
-    (λ b. ap (λ (t : Stage). at_stage t (row_of b c.row-at-row.result)) (sym c.ended-row.ensures)))
+    (change_view (g.S.Shelf.model s.shelf) s.rows s.out s.line s.whims s.at s.draw c.in-Held.k (ending c.args.status) c.row_at-row.result _ c.put_row.new.rows c.row_at-row.ensures c.put_row.ensures
+    (λ b. ap (λ (t : Stage). at_stage t (row_of b c.row_at-row.result)) (sym c.ended-row.ensures)))

@@ -7,4 +7,4 @@ pub returns-in-Out : goal.returns-in-Out
 returns-in-Out g c =
     let s = c.args.self.now in
     goes_out c.args.way _ _ c.in-Out.is
-    (c.any-reader.ensures ∙ sym (reader_view (g.S.Shelf.model s.shelf) c.args.target c.args.lun s.out s.rows))
+    (c.any_reader.ensures ∙ sym (reader_view (g.S.Shelf.model s.shelf) c.args.target c.args.lun s.out s.rows))

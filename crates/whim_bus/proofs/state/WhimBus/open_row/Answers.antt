@@ -10,4 +10,4 @@ pub returns : goal.returns
 returns g c =
     let s = c.args.self.now in
     ap (λ (w : Whim). with_line (Held c.args.k) w)
-    (change_view (g.S.Shelf.model s.shelf) s.rows s.out s.line s.whims s.at s.draw c.args.k (taken_by c.args.target c.args.greeting) (get_or s.rows c.args.k blank_row) _ c.put-row.new.rows refl c.put-row.ensures (λ b. refl))
+    (change_view (g.S.Shelf.model s.shelf) s.rows s.out s.line s.whims s.at s.draw c.args.k (taken_by c.args.target c.args.greeting) (get_or s.rows c.args.k blank_row) _ c.put_row.new.rows refl c.put_row.ensures (λ b. refl))

@@ -6,4 +6,4 @@ use Rattle.whim_bus.proofs.state.WhimBus.save.Goals as goal
 pub returns : goal.returns
 returns g c =
     let s = c.args.self.now in
-    change_view (g.S.Shelf.model s.shelf) s.rows s.out s.line s.whims s.at s.draw c.args.k saving c.row-at-row.result _ c.put-row.new.rows c.row-at-row.ensures c.put-row.ensures (λ b. refl)
+    change_view (g.S.Shelf.model s.shelf) s.rows s.out s.line s.whims s.at s.draw c.args.k saving c.row_at-row.result _ c.put_row.new.rows c.row_at-row.ensures c.put_row.ensures (λ b. refl)

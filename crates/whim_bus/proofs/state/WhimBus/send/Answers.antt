@@ -9,4 +9,4 @@ pub returns-in-Held : goal.returns-in-Held
 returns-in-Held g c =
     let s = c.args.self.now in
     on_held (sent (cdb_bytes c.args.command)) s.line c.in-Held.k (whim_of (g.S.Shelf.model s.shelf) s.rows s.out s.line s.whims s.at s.draw) _ c.in-Held.is
-    (change_view (g.S.Shelf.model s.shelf) s.rows s.out s.line s.whims s.at s.draw c.in-Held.k (sent (cdb_bytes c.args.command)) c.row-at-row.result _ c.put-row.new.rows c.row-at-row.ensures c.put-row.ensures (λ b. refl))
+    (change_view (g.S.Shelf.model s.shelf) s.rows s.out s.line s.whims s.at s.draw c.in-Held.k (sent (cdb_bytes c.args.command)) c.row_at-row.result _ c.put_row.new.rows c.row_at-row.ensures c.put_row.ensures (λ b. refl))
