@@ -1,6 +1,5 @@
 -- A bus that only pauses keeps the rules. Assumes nothing.
 use Rattle.std.proofs.Common.{◌≡◌, ℕ, Bool, true, false, cond, List, [], ◌∷◌, sym, refl, subst, arith}
-use mathlib.Core.Bool.{false≢true}
 use Rattle.bus.specs.declared.Shown.{Shown}
 use Rattle.bus.specs.declared.Shown.TheVariants.{Pause}
 use Rattle.bus.specs.State.{Name, Nexus, Line, free, retaken, held, Cable, BusState, clear}

@@ -6,13 +6,13 @@ use Rattle.scsi.specs.Greetings.{greeting_of}
 use Rattle.shelf.specs.declared.Way.{Way}
 use Rattle.shelf.specs.declared.Way.TheVariants.{Still, In, Out}
 use Rattle.shelf.specs.Model.{Model, way_of, count_of, byte_of, status_of, finished}
-use Rattle.shelf.specs.Serving.{outs, served}
+use Rattle.shelf.specs.Serving.{outs}
 use Rattle.bus.specs.declared.Selection.{Selection}
 use Rattle.bus.specs.declared.Selection.TheVariants.{Selected, Lost, Absent}
 use Rattle.bus.specs.declared.Refusal.{Refusal}
 use Rattle.bus.specs.declared.Shown.{Shown}
 use Rattle.bus.specs.declared.Shown.TheVariants.{DataOut, DataIn, Command, Status, MessageIn}
-use Rattle.bus.specs.State.{Name, Nexus, BusState, AtRest, put, sent, given, moved, ended, fresh_nexus}
+use Rattle.bus.specs.State.{Name, Nexus, BusState, AtRest, sent, given, moved, ended, fresh_nexus}
 use Rattle.bus.specs.Single.{resting}
 use Rattle.bus.specs.Calls.{Call, select, command, give, take, wait, reset, refused, done, took, selection_or_refused}
 use Rattle.bus.specs.Refusals.{name_of}

@@ -18,7 +18,7 @@ use Rattle.engine.specs.declared.state.Engine.{Engine as Kept}
 
 -- all that is always true of the fields
 abbrev pub Whole : Slots → Type 0
-Whole s = Ended s × (FreeChain s × (WaitingChain s × (LineKept s × Unit {0})))
+Whole s = record { ended : Ended s; free : FreeChain s; waiting : WaitingChain s; line : LineKept s }
 
 ---- chains
 
@@ -99,16 +99,12 @@ sound_of e = record {
 
 -- fields that stand for a sound engine
 pub whole_by : (s : Slots) (e : Engine) → view s ≡ e → Sound e → Linked s → held_right s.line e.slots ≡ true → s.heard ≤ 257 → length s.begun ≡ 258 → Whole s
-whole_by s e q o l h n m = (
-  (links_ends 16 (nexts s.slots) s.free l.free, links_ends 16 (nexts s.slots) s.waiting l.waiting),
-  (
-    (p.free_chain, so_once (view s).free p.free_once),
-    (
-      (p.waiting_chain, so_once (view s).waiting p.waiting_once),
-      ((ap (λ (e : Engine). held_right s.line e.slots) q ∙ h, n, m), tt),
-    ),
-  ),
-)
+whole_by s e q o l h n m = record {
+  ended = (links_ends 16 (nexts s.slots) s.free l.free, links_ends 16 (nexts s.slots) s.waiting l.waiting);
+  free = (p.free_chain, so_once (view s).free p.free_once);
+  waiting = (p.waiting_chain, so_once (view s).waiting p.waiting_once);
+  line = (ap (λ (e : Engine). held_right s.line e.slots) q ∙ h, n, m);
+}
   where
     p : Sound (view s)
     p = subst Sound (sym q) o

@@ -14,7 +14,7 @@ impl Engine {
     // Slot `k` is changed, and holds the line with no begun message.
     pub(crate) fn keep(&mut self, k: u8, slot: Slot)
         requires open_at { OpenAt self.old.state k slot }
-        requires state_value { slot.state ≡ State.Connected }
+        requires connected { slot.state ≡ State.Connected }
         ensures { view self.new.state ≡ set_slot k (entry_of slot) (held k []) (view self.old.state) }
     {
         self.state.slots[(k - 1) as usize] = slot;
@@ -25,8 +25,8 @@ impl Engine {
     // Slot `k` is changed, and the line is idle.
     pub(crate) fn leave(&mut self, k: u8, slot: Slot)
         requires open_at { OpenAt self.old.state k slot }
-        requires state_value { in_use slot.state ≡ true }
-        requires state_value_2 { is_waiting slot.state ≡ false }
+        requires used { in_use slot.state ≡ true }
+        requires not_waiting { is_waiting slot.state ≡ false }
         ensures { view self.new.state ≡ set_slot k (entry_of slot) idle (view self.old.state) }
     {
         self.state.slots[(k - 1) as usize] = slot;
@@ -46,7 +46,7 @@ impl Engine {
     // Slot `k` holds the line, and one byte more of a message has begun.
     pub(crate) fn hear_more(&mut self, k: u8, byte: u8)
         requires connected_at { ConnectedAt self.old.state k }
-        requires heard_bound { self.old.state.heard < 257 }
+        requires room { self.old.state.heard < 257 }
         ensures { view self.new.state ≡ set_line (held k (take self.old.state.heard self.old.state.begun ++ byte ∷ [])) (view self.old.state) }
     {
         let heard = self.state.heard;
@@ -75,9 +75,9 @@ impl Engine {
 
     // A finished slot goes to the free head.
     pub(crate) fn put_back(&mut self, k: u8, slot: Slot)
-        requires k_value { numbered k ≡ true }
-        requires slot_value { entry_of slot ≡ (view self.old.state).slots k }
-        requires state_value { is_finished slot.state ≡ true }
+        requires is_slot { numbered k ≡ true }
+        requires as_kept { entry_of slot ≡ (view self.old.state).slots k }
+        requires finished { is_finished slot.state ≡ true }
         ensures { view self.new.state ≡ put_back k (view self.old.state) }
     {
         let mut changed = slot;
@@ -89,8 +89,8 @@ impl Engine {
 
     // The free head takes this command, and goes to the end of the waiting chain.
     pub(crate) fn enqueue(&mut self, k: u8, command: Command)
-        requires free_value { self.old.state.free ≡ k }
-        requires k_value { numbered k ≡ true }
+        requires free_head { self.old.state.free ≡ k }
+        requires is_slot { numbered k ≡ true }
         ensures { view self.new.state ≡ taken_in (command_of command) (view self.old.state).free (view self.old.state) }
     {
         let head = self.state.waiting;
@@ -120,7 +120,7 @@ impl Engine {
     fn unqueue_head(&mut self, k: u8, slot: Slot, line: Line)
         requires waiting_at { WaitingAt self.old.state k }
         requires goes_on { GoesOn k slot line }
-        requires waiting_value { self.old.state.waiting ≡ k }
+        requires waiting_head { self.old.state.waiting ≡ k }
         ensures { view self.new.state ≡ unlink_slot k (entry_of slot) (line_of line []) (view self.old.state) }
     {
         self.state.waiting = self.state.slots[(k - 1) as usize].next;
@@ -132,8 +132,8 @@ impl Engine {
     fn unqueue_later(&mut self, head: u8, k: u8, slot: Slot, line: Line)
         requires waiting_at { WaitingAt self.old.state k }
         requires goes_on { GoesOn k slot line }
-        requires waiting_value { self.old.state.waiting ≡ head }
-        requires head_nonzero { head ≢ k }
+        requires waiting_head { self.old.state.waiting ≡ head }
+        requires later { head ≢ k }
         ensures { view self.new.state ≡ unlink_slot k (entry_of slot) (line_of line []) (view self.old.state) }
     {
         let at = before(&self.state.slots, head, k);
@@ -146,9 +146,9 @@ impl Engine {
     }
 
     fn start_queue(&mut self, k: u8, command: Command)
-        requires free_value { self.old.state.free ≡ k }
-        requires k_value { numbered k ≡ true }
-        requires waiting_value { numbered self.old.state.waiting ≡ false }
+        requires free_head { self.old.state.free ≡ k }
+        requires is_slot { numbered k ≡ true }
+        requires none_waits { numbered self.old.state.waiting ≡ false }
         ensures { view self.new.state ≡ taken_in (command_of command) (view self.old.state).free (view self.old.state) }
     {
         self.state.free = self.state.slots[(k - 1) as usize].next;
@@ -157,10 +157,10 @@ impl Engine {
     }
 
     fn append(&mut self, k: u8, head: u8, command: Command)
-        requires free_value { self.old.state.free ≡ k }
-        requires k_value { numbered k ≡ true }
-        requires waiting_value { self.old.state.waiting ≡ head }
-        requires head_value { numbered head ≡ true }
+        requires free_head { self.old.state.free ≡ k }
+        requires is_slot { numbered k ≡ true }
+        requires waiting_head { self.old.state.waiting ≡ head }
+        requires some_wait { numbered head ≡ true }
         ensures { view self.new.state ≡ taken_in (command_of command) (view self.old.state).free (view self.old.state) }
     {
         let last = before(&self.state.slots, head, k);

@@ -50,7 +50,7 @@ impl Engine {
         heard: Heard,
     ) -> Answer
         requires holds { Holds self.old.state k slot }
-        requires heard_bound { heard ≡ Heard.Part → self.old.state.heard < 257 }
+        requires room { heard ≡ Heard.Part → self.old.state.heard < 257 }
         ensures { (m : List ℕ) → Plays (λ b. (B.Bus.means b).shown) B.Bus.did (by_heard (view self.old.state) k (entry_of slot) (take self.old.state.heard self.old.state.begun ++ byte ∷ []) heard None) bus.old m result (view self.new.state) bus.new m }
     {
         let mut changed = slot;
@@ -84,7 +84,7 @@ impl Engine {
         heard: Heard,
     ) -> Answer
         requires holds { Holds self.old.state k slot }
-        requires heard_bound { heard ≡ Heard.Part → self.old.state.heard < 257 }
+        requires room { heard ≡ Heard.Part → self.old.state.heard < 257 }
         ensures { (m : List ℕ) (s : ℕ) → Plays (λ b. (B.Bus.means b).shown) B.Bus.did (by_heard (view self.old.state) k (entry_of slot) (take self.old.state.heard self.old.state.begun ++ byte ∷ []) heard (Some s)) bus.old m result (view self.new.state) bus.new m }
     {
         match heard {

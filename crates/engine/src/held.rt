@@ -45,7 +45,7 @@ impl Engine {
         shown: Shown,
     ) -> Answer
         requires holds { Holds self.old.state k slot }
-        requires heard_value { self.old.state.heard ≡ 0 }
+        requires nothing_begun { self.old.state.heard ≡ 0 }
         ensures { Plays (λ b. (B.Bus.means b).shown) B.Bus.did (held_by (view self.old.state) k (entry_of slot) shown) bus.old memory.old result (view self.new.state) bus.new memory.new }
     {
         match shown {

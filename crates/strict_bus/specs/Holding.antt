@@ -6,7 +6,7 @@ use Rattle.shelf.specs.declared.Way.TheVariants.{Still, In, Out}
 use Rattle.shelf.specs.Model.{Model, way_of, count_of, byte_of, status_of}
 use Rattle.bus.specs.declared.Shown.{Shown}
 use Rattle.bus.specs.declared.Shown.TheVariants.{DataOut, DataIn, Status, Pause}
-use Rattle.bus.specs.State.{Name, Nexus, BusState, change}
+use Rattle.bus.specs.State.{Name, Nexus, BusState}
 use Rattle.bus.proofs.Names.{put_here}
 use Rattle.bus.specs.Single.{holding}
 use Rattle.bus.specs.Showing.{data_shown}

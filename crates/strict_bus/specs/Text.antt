@@ -1,8 +1,6 @@
 -- The strict bus: it never loses a selection, moves each command straight through, and never lets go. Assumes nothing.
 use Rattle.std.specs.Prelude.{◌≡◌, ℕ, true, cond, List, [], ◌∷◌, Some, None, Option, ◌==◌, ◌≢◌, nat_lt}
 use Rattle.scsi.specs.Greetings.{greeting_of}
-use Rattle.shelf.specs.declared.Way.{Way}
-use Rattle.shelf.specs.declared.Way.TheVariants.{Still, In, Out}
 use Rattle.shelf.specs.Model.{Model, is_present, way_of, count_of, byte_of, status_of}
 use Rattle.bus.specs.declared.Shown.{Shown}
 use Rattle.bus.specs.declared.Shown.TheVariants.{DataOut, DataIn, Command, Status, Reserved4, Reserved5, MessageOut, MessageIn, Free, Reselect, Pause}

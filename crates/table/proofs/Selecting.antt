@@ -24,7 +24,7 @@ use Rattle.table.specs.Script.{World, Runs}
 use Rattle.table.specs.Table.{on_reselect, pausing, lets, eligible, greeting_for, selecting, on_free, idle_row}
 use Rattle.table.specs.Serving.{Serving}
 use Rattle.table.proofs.Basics.{wrong, put_cases, put_here, every_at, first_of_some, stands_without}
-use Rattle.table.proofs.States.{open_used, waiting_is, done_finished, still_open, reselect_is, Unheld, idle_unheld, greeted_unheld, held_is, told_is}
+use Rattle.table.proofs.States.{open_used, waiting_is, done_finished, reselect_is, Unheld, idle_unheld, greeted_unheld, held_is, told_is}
 use Rattle.table.proofs.Invariant.{Book, HasNexus, Settled, Ties, Core, line_means, begun_means}
 use Rattle.table.proofs.Keeping.{book_keeps, granted, tag_apart, underway_on}
 use Rattle.table.proofs.Turns.{After, plainly, still, ending, resting, pausing_keeps}

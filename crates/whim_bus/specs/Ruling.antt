@@ -4,7 +4,7 @@ use Rattle.std.proofs.Common.{sym, ap, subst, ◌∙◌}
 use Rattle.std.proofs.lemmas.Bool.{leb-false, and_parts, and_from, or_parts, not-false, false≢true}
 use Rattle.std.proofs.lemmas.List.{length-map}
 use Rattle.scsi.specs.declared.greeting.Greeting.{Greeting}
-use Rattle.scsi.specs.Greetings.{greeting, greeting_of}
+use Rattle.scsi.specs.Greetings.{greeting_of}
 use Rattle.scsi.specs.Commands.{well_sized}
 use Rattle.shelf.specs.Model.{Model, is_present}
 use Rattle.bus.specs.declared.Shown.{Shown}

@@ -6,7 +6,7 @@ use Rattle.shelf.specs.declared.Way.{Way}
 use Rattle.shelf.specs.declared.Way.TheVariants.{Still, In, Out}
 use Rattle.shelf.specs.Model.{Model, way_of, count_of, byte_of, status_of}
 use Rattle.bus.specs.declared.Shown.{Shown}
-use Rattle.bus.specs.declared.Shown.TheVariants.{DataOut, DataIn, Command, Status, MessageIn, Free as FREE, Reselect, Pause}
+use Rattle.bus.specs.declared.Shown.TheVariants.{Command, Status, MessageIn, Free as FREE, Reselect, Pause}
 use Rattle.bus.specs.Showing.{data_shown}
 use Rattle.whim_bus.specs.declared.state.Line.{Line}
 use Rattle.whim_bus.specs.declared.state.Line.TheVariants.{Free, Retaken, Held}

@@ -8,7 +8,7 @@ use Rattle.shelf.specs.Serving.{served}
 use Rattle.bus.specs.declared.Shown.{Shown}
 use Rattle.bus.specs.declared.Shown.TheVariants.{DataOut, DataIn, Command, Status, Reserved4, Reserved5, MessageOut, MessageIn, Free as FREE, Reselect, Pause}
 use Rattle.bus.specs.Kinds.{byte_shown}
-use Rattle.bus.specs.Calls.{Call, select, accept, command, give, take, speak, wait, reset, Reply, refused, selected, lost, absent, done, took, took_shown}
+use Rattle.bus.specs.Calls.{Call, select, accept, command, give, take, speak, wait, reset, Reply, refused, selected, lost, absent, done, took_shown}
 use Rattle.bus.specs.Refusals.{due}
 use Rattle.bus.specs.Effects.{aborts}
 use Rattle.whim_bus.specs.declared.state.Line.{Line}

@@ -1,4 +1,4 @@
-use Rattle.std.proofs.Common.{◌/◌, vec_items, vec_len, ap, ◌∙◌}
+use Rattle.std.proofs.Common.{◌/◌, vec_items, vec_len, ◌∙◌}
 use Rattle.devices.specs.Disk.{disk}
 use Rattle.devices.specs.Device.{device_model}
 use Rattle.devices.proofs.Finished.{device_finished}

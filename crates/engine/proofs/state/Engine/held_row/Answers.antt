@@ -11,6 +11,6 @@ returns-in-Command g c = plays_as (λ b. (g.B.Bus.means b).shown) g.B.Bus.did _ 
 
 pub returns-in-MessageIn : goal.returns-in-MessageIn
 returns-in-MessageIn g c = plays_as (λ b. (g.B.Bus.means b).shown) g.B.Bus.did _ _
-    (ap (λ (n : ℕ). message_by (view c.args.self.now.state) c.args.k (entry_of c.args.slot) (take n c.args.self.now.state.begun ++ c.in-MessageIn.byte ∷ [])) c.requires.1
+    (ap (λ (n : ℕ). message_by (view c.args.self.now.state) c.args.k (entry_of c.args.slot) (take n c.args.self.now.state.begun ++ c.in-MessageIn.byte ∷ [])) c.requires.nothing_begun
     ∙ ap (held_by (view c.args.self.now.state) c.args.k (entry_of c.args.slot)) (sym c.in-MessageIn.is))
     c.args.bus.now c.args.memory.now c.message_byte.result (view c.message_byte.new.self.state) c.message_byte.new.bus c.args.memory.now (c.message_byte.ensures c.args.memory.now)

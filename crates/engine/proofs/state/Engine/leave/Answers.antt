@@ -5,7 +5,7 @@ use Rattle.engine.proofs.Kept.{whole_leave}
 use Rattle.engine.proofs.state.Engine.leave.Goals as goal
 
 pub invariant_of-self : goal.invariant_of-self
-invariant_of-self c = whole_leave c.args.self.now (search rules) c.args.k c.args.slot c.requires.0 c.requires.1 c.requires.2
+invariant_of-self c = whole_leave c.args.self.now (search rules) c.args.k c.args.slot c.requires.open_at c.requires.used c.requires.not_waiting
 
 pub returns : goal.returns
-returns c = view_set c.args.self.now.state c.args.k c.args.slot Idle 0 c.requires.0.low c.requires.0.high (search rules) c.requires.0.same_next
+returns c = view_set c.args.self.now.state c.args.k c.args.slot Idle 0 c.requires.open_at.low c.requires.open_at.high (search rules) c.requires.open_at.same_next

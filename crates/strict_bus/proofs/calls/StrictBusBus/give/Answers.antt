@@ -6,7 +6,7 @@ pub bounds-self-self : goal.bounds-self-self
 bounds-self-self g c = omega (arith, c.in-DataOut.ensures.room refl)
 
 pub invariant_of-self : goal.invariant_of-self
-invariant_of-self g c = let r = c.in-DataOut.ensures.room refl in ((omega arith, omega arith), tt)
+invariant_of-self g c = let r = c.in-DataOut.ensures.room refl in record { within = (omega arith, omega arith) }
 
 pub returns : goal.returns
 returns g c =
