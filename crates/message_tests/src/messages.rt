@@ -85,13 +85,24 @@ fn waits_for_what_is_missing(rt: HostRuntime) {
 
 const BODY: &[u8] = &[0x01; 256];
 
+/// A message and what follows it, as the reader answers them.
+fn followed<'a>(message: Message<'a>, rest: &'a [u8]) -> Option<(Message<'a>, &'a [u8])> {
+    Some((message, rest))
+}
+
 #[test]
 fn takes_length_0_for_256(rt: HostRuntime) {
     let mut bytes = [0x01; 300];
     bytes[1] = 0x00;
     assert_eq!(rt; read(&bytes[0..257]), None);
-    assert_eq!(rt; read(&bytes[0..258]), Some((Message::Extended(BODY), &[])));
-    assert_eq!(rt; read(&bytes), Some((Message::Extended(BODY), &[0x01; 42])));
+    assert_eq!(rt;
+        read(&bytes[0..258]),
+        followed(Message::Extended(BODY), &[])
+    );
+    assert_eq!(rt;
+        read(&bytes),
+        followed(Message::Extended(BODY), &[0x01; 42])
+    );
 }
 
 /// The first bytes of the other messages of one byte.
@@ -103,13 +114,13 @@ fn reads_every_other(rt: HostRuntime) {
         for first in from..=to {
             assert_eq!(rt;
                 read(&[first, 0x20]),
-                Some((Message::Other(first), &[0x20]))
+                followed(Message::Other(first), &[0x20])
             );
         }
     }
     for first in 0x21..=0x2f {
         let other = Message::OtherTwo(first, &0x20);
-        assert_eq!(rt; read(&[first, 0x20, 0x01]), Some((other, &[0x01])));
+        assert_eq!(rt; read(&[first, 0x20, 0x01]), followed(other, &[0x01]));
     }
 }
 
@@ -138,8 +149,8 @@ fn reads_every_identify(rt: HostRuntime) {
     for (first, leave) in IDENTIFIES {
         for lun in 0..8 {
             let identify = Message::Identify { leave, lun };
-            assert_eq!(rt; read(&[first | lun]), Some((identify, &[])));
-            assert_eq!(rt; read(&[first | lun, 0x20]), Some((identify, &[0x20])));
+            assert_eq!(rt; read(&[first | lun]), followed(identify, &[]));
+            assert_eq!(rt; read(&[first | lun, 0x20]), followed(identify, &[0x20]));
         }
     }
 }
