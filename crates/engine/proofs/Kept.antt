@@ -10,16 +10,16 @@ use Rattle.slots.specs.declared.line.Line.{Line}
 use Rattle.slots.specs.declared.line.Line.TheVariants.{Idle, Greeted, Named, TagDue, Held}
 use Rattle.table.specs.Engine.{Command, Entry, Line as TableLine, idle, held, in_use, is_waiting, is_open, is_finished, numbered, stands_on, put_slot, set_slot, set_line, with_state}
 use Rattle.table.specs.Table.{cleared}
-use Rattle.table.specs.Calls.{just_accepted, taken_in, put_back}
+use Rattle.table.specs.Calls.{just_accepted, taken_in, put_back, open_or_waiting, reset_engine}
 use Rattle.table.specs.View.{entry_of, slot_at, nexts, chain, line_of, view, Linked, before, reset_slot}
 use Rattle.table.proofs.Basics.{wrong, is_numbered, put_here, put_cases, stands_head, stands_cons}
 use Rattle.table.proofs.States.{open_used, open_not_waiting, finished_used, finished_not_waiting, free_is, idle_unheld, held_is}
 use Rattle.table.proofs.Chains.{last_of}
 use Rattle.table.proofs.Walks.{chain_cons, chain_none, before_off}
-use Rattle.table.proofs.Views.{view_set, nexts_kept, nexts_reset, entry_here, linked_same, view_cleared}
+use Rattle.table.proofs.Views.{view_set, nexts_kept, nexts_reset, entry_here, linked_same, view_cleared, view_reset, linked_reset}
 use Rattle.table.proofs.Linking.{view_put_back, linked_put_back, view_first, linked_first, view_append, linked_append}
 use Rattle.table.proofs.Regions.{slot_sound, sound_line, sound_cleared}
-use Rattle.table.proofs.Sounds.{put_back_sound, taken_sound}
+use Rattle.table.proofs.Sounds.{put_back_sound, taken_sound, reset_sound}
 use Rattle.engine.specs.Fields.{OpenAt, ConnectedAt, unheld}
 use Rattle.engine.specs.Whole.{is_connected, held_right}
 use Rattle.engine.specs.declared.state.Engine.{Engine as Kept}
@@ -124,6 +124,20 @@ whole_cleared e xs q =
   where
     s' : Slots
     s' = record { slots = xs; free = e.state.free; waiting = e.state.waiting; line = Idle; begun = e.state.begun; heard = 0; size = e.state.size }
+
+---- waiting ones too
+
+module _ (e : Kept) (xs : List Slot) (q : xs ≡ map (reset_slot open_or_waiting) e.state.slots) where
+  abbrev reset_to : Slots
+  reset_to = record { slots = xs; free = e.state.free; waiting = 0; line = Idle; begun = e.state.begun; heard = 0; size = e.state.size }
+
+  pub view_ended : view reset_to ≡ reset_engine (view e.state)
+  view_ended = view_reset e.state xs 0 q
+
+  pub whole_ended : Whole reset_to
+  whole_ended =
+      whole_by reset_to (reset_engine (view e.state)) view_ended (reset_sound (view e.state) (sound_of e))
+      (linked_reset e.state reset_to q refl refl (linked_of e)) refl (omega arith) e.line.2
 
 ---- chains
 

@@ -1,7 +1,9 @@
 -- What the calls answer, by numbers. Assumes nothing.
-use Rattle.std.specs.Prelude.{◌≡◌, ℕ, cond, List, length, Some, None, Ok, Err, Option, Result, ◌==◌, nat_lt}
+use Rattle.std.specs.Prelude.{◌≡◌, ℕ, ◌≤◌, cond, List, length, Some, None, Ok, Err, Option, Result, ◌==◌, nat_lt}
 use Rattle.slots.specs.declared.answer.Collected.{Collected}
 use Rattle.slots.specs.declared.answer.Answer.{Answer}
+use Rattle.slots.specs.declared.answer.End.{End}
+use Rattle.slots.specs.declared.answer.End.TheVariants.{Spent}
 use Rattle.slots.specs.declared.refusal.Refusal.{Refusal}
 use Rattle.slots.specs.declared.refusal.Refusal.TheVariants.{MemorySize as WrongSize}
 use Rattle.slots.specs.Numbers.{refusal_number}
@@ -10,7 +12,8 @@ use Rattle.bus.specs.Calls.{Call, Reply}
 use Rattle.table.specs.Engine.{Engine}
 use Rattle.table.specs.Script.{Plays}
 use Rattle.table.specs.Table.{step}
-use Rattle.table.specs.Calls.{Request as Asked, When}
+use Rattle.table.specs.Calls.{Request as Asked, When, PlaysRun}
+use Rattle.table.specs.Isolation.{StepIsolated, RunIsolated}
 use Rattle.slots.specs.declared.command.Command.{Command}
 use Rattle.slots.specs.declared.slot.Slots.{Slots}
 use Rattle.engine.specs.declared.size.MemorySize.{MemorySize}
@@ -65,3 +68,25 @@ abbrev pub Stepped : {B : Type 0} → (B → Shown) → (B → Call → Reply �
 Stepped see did e b m r e' b' m' = When (length m == e.size)
     ((a : Answer) × (r ≡ Ok a) × Plays see did (step e) b m a e' b' m')
     ((r ≡ Err WrongSize) × (e' ≡ e) × (b' ≡ b) × (m' ≡ m))
+
+-- a step that is made touches the memory as isolation says
+abbrev pub StepAlone : {B : Type 0} → (B → Shown) → (B → Call → Reply → B → Type 0) → Engine → B → List ℕ → Result Answer Refusal → Engine → B → List ℕ → Type 0
+StepAlone see did e b m (Ok a) e' b' m' = StepIsolated see did e b m a e' b' m'
+StepAlone see did e b m (Err x) e' b' m' = Unit {0}
+
+---- run, likewise
+
+-- number 8 in the same way, after 0 steps; else at most n rows of the table, with how many they are
+abbrev pub Ran : {B : Type 0} → (B → Shown) → (B → Call → Reply → B → Type 0) → ℕ → Engine → B → List ℕ → ℕ → Result End Refusal → Engine → B → List ℕ → Type 0
+Ran see did n e b m made r e' b' m' = When (length m == e.size)
+    ((end : End) × (r ≡ Ok end) × PlaysRun see did n e b m made end e' b' m')
+    ((made ≡ 0) × (r ≡ Err WrongSize) × (e' ≡ e) × (b' ≡ b) × (m' ≡ m))
+
+-- it makes no more steps than allowed, and is spent only after all of them: after 0 steps only where 0 are allowed
+pub record Allowed (n made : ℕ) (r : Result End Refusal) : Type 0 where
+  pub at_most : made ≤ n
+  pub spent : r ≡ Ok Spent → made ≡ n
+
+abbrev pub RunAlone : {B : Type 0} → (B → Shown) → (B → Call → Reply → B → Type 0) → ℕ → Engine → B → List ℕ → ℕ → Result End Refusal → Engine → B → List ℕ → Type 0
+RunAlone see did n e b m made (Ok end) e' b' m' = RunIsolated see did n e b m made end e' b' m'
+RunAlone see did n e b m made (Err x) e' b' m' = Unit {0}

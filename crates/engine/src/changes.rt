@@ -2,7 +2,7 @@
 ghost use Rattle.std.specs.Prelude.{◌≡◌, ◌<◌, true, false, [], ◌∷◌, ◌++◌, map, take, ◌≢◌};
 ghost use Rattle.table.specs.Engine.{held, idle, in_use, is_waiting, is_open, set_slot, unlink_slot, set_line, numbered, is_finished};
 ghost use Rattle.table.specs.Table.{cleared};
-ghost use Rattle.table.specs.Calls.{just_accepted, taken_in, put_back};
+ghost use Rattle.table.specs.Calls.{just_accepted, taken_in, put_back, open_or_waiting, reset_engine};
 ghost use Rattle.table.specs.View.{view, entry_of, command_of, line_of, reset_slot};
 ghost use Rattle.engine.specs.Fields.{OpenAt, ConnectedAt, WaitingAt, GoesOn, unheld};
 
@@ -69,6 +69,16 @@ impl Engine {
         ensures { view self.new.state ≡ cleared (view self.old.state) }
     {
         reset_open(&mut self.state.slots);
+        self.state.line = Line::Idle;
+        self.state.heard = 0;
+    }
+
+    // So are waiting ones.
+    pub(crate) fn clear_all(&mut self)
+        ensures { view self.new.state ≡ reset_engine (view self.old.state) }
+    {
+        reset_unfinished(&mut self.state.slots);
+        self.state.waiting = 0;
         self.state.line = Line::Idle;
         self.state.heard = 0;
     }
@@ -207,5 +217,27 @@ fn reset_open(slots: &mut [Slot; 16])
 {
     for i in 0..16usize {
         slots[i] = reset_slot(slots[i]);
+    }
+}
+
+// The slot, finished RESET if it has a command that is not finished.
+fn reset_command(slot: Slot) -> Slot
+    ensures { result ≡ reset_slot open_or_waiting slot }
+{
+    let mut changed = slot;
+    match slot.state {
+        State::Waiting | State::Connected | State::Away => {
+            changed.state = State::Finished(Outcome::Reset);
+        }
+        State::Free | State::Finished(_) => {}
+    }
+    changed
+}
+
+fn reset_unfinished(slots: &mut [Slot; 16])
+    ensures { slots.new ≡ map (reset_slot open_or_waiting) slots.old }
+{
+    for i in 0..16usize {
+        slots[i] = reset_command(slots[i]);
     }
 }

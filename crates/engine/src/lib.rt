@@ -13,6 +13,8 @@ mod idle;
 mod making;
 mod memory;
 mod request;
+mod reset;
+mod run;
 mod size;
 mod state;
 mod step;

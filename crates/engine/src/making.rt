@@ -1,7 +1,7 @@
 // An engine is made.
 ghost use Rattle.std.specs.Prelude.{◌≡◌};
 ghost use Rattle.table.specs.Engine.{JustMade};
-ghost use Rattle.table.specs.View.{view, fresh_slot, fresh_slots};
+ghost use Rattle.table.specs.View.{view, fresh_slot, fresh_slots, fresh_fields};
 
 use crate::size::MemorySize;
 use crate::state::Engine;
@@ -14,6 +14,7 @@ impl Engine {
     pub fn new(size: MemorySize) -> Engine
         ensures made { JustMade (view result.state) }
         ensures size { (view result.state).size ≡ size.bytes }
+        ensures fields { result.state ≡ fresh_fields size.bytes }
     {
         Engine {
             state: Slots {

@@ -3,6 +3,7 @@ ghost use Rattle.engine.specs.Whole.{Ended, FreeChain, WaitingChain, LineKept};
 use slots::Slots;
 
 /// The engine: sixteen slots for commands, and the line as it knows it.
+#[derive(Drop)]
 pub struct Engine {
     pub(crate) state: Slots,
     ghost ended: { Ended state },

@@ -1,5 +1,16 @@
-/// What a granted submit answers: it names the command's slot, and only collect takes it back. It is neither copied nor
-/// dropped, so a command is collected once and never forgotten.
+ghost use Rattle.std.specs.Prelude.{◌≡◌};
+
+/// What a granted submit answers: it names the command's slot, and only collect takes it back. It can be neither copied nor
+/// let go, so a program that forgets one, or collects one twice, does not compile.
 pub struct Ticket {
     pub(crate) slot: u8,
+}
+
+impl Ticket {
+    /// The slot that it names.
+    pub fn slot(&self) -> u8
+        ensures { result ≡ self.now.slot }
+    {
+        self.slot
+    }
 }

@@ -8,6 +8,8 @@ use Rattle.slots.specs.declared.answer.Layer.{Layer}
 use Rattle.slots.specs.declared.answer.Layer.TheVariants.{Bus, Message, Nexus, Pointer}
 use Rattle.slots.specs.declared.answer.Answer.{Answer}
 use Rattle.slots.specs.declared.answer.Answer.TheVariants.{Idle, Waited, Lost, Selected, Accepted, Moved, Finished, Told, Fault}
+use Rattle.slots.specs.declared.answer.End.{End}
+use Rattle.slots.specs.declared.answer.End.TheVariants.{Spent, Finished as FinishedEnd, Fault as FaultEnd}
 use Rattle.slots.specs.declared.refusal.Refusal.{Refusal}
 use Rattle.slots.specs.declared.refusal.Refusal.TheVariants.{Target, Lun, CommandLength, Form, Outside, Shared, Full, MemorySize, Unfinished, TooLarge}
 
@@ -55,6 +57,18 @@ answer_slot (Moved k) = k
 answer_slot (Finished k) = k
 answer_slot (Told k) = k
 answer_slot (Fault f) = f.slot
+
+-- what ended a run: its allowance was spent, FINISHED, a fault
+abbrev pub end_number : End → ℕ
+end_number Spent = 0
+end_number (FinishedEnd k) = 1
+end_number (FaultEnd f) = 2
+
+-- the slot that it is about, 0 for none
+abbrev pub end_slot : End → ℕ
+end_slot Spent = 0
+end_slot (FinishedEnd k) = k
+end_slot (FaultEnd f) = f.slot
 
 -- the tests of a call run in this order
 abbrev pub refusal_number : Refusal → ℕ

@@ -1,5 +1,5 @@
 ghost use Rattle.std.specs.Prelude.{◌≡◌};
-ghost use Rattle.slots.specs.Numbers.{layer_number, answer_number, answer_slot};
+ghost use Rattle.slots.specs.Numbers.{layer_number, answer_number, answer_slot, end_number, end_slot};
 
 use crate::slot::Outcome;
 
@@ -103,6 +103,30 @@ impl Answer {
             | Answer::Finished(slot)
             | Answer::Told(slot) => slot,
             Answer::Fault(fault) => fault.slot,
+        }
+    }
+}
+
+impl End {
+    /// Its number, which is its place in the list of ends.
+    pub fn number(self) -> u8
+        ensures { result ≡ end_number self }
+    {
+        match self {
+            End::Spent => 0,
+            End::Finished(_) => 1,
+            End::Fault(_) => 2,
+        }
+    }
+
+    /// The slot that it is about, 0 for none.
+    pub fn slot(self) -> u8
+        ensures { result ≡ end_slot self }
+    {
+        match self {
+            End::Spent => 0,
+            End::Finished(slot) => slot,
+            End::Fault(fault) => fault.slot,
         }
     }
 }

@@ -11,9 +11,9 @@ pub enum Outcome {
     Done,
     /// There is no such target.
     Absent,
-    /// The target moved a byte past the region.
+    /// The target asked to move a byte past the region.
     Overrun,
-    /// The target moved a byte against the command's direction.
+    /// The target asked to move a byte against the command's direction.
     WrongWay,
     /// The target left the line free.
     Dropped,
@@ -49,6 +49,7 @@ pub struct Slot {
 
 /// All that the engine keeps: its slots, numbered from 1, the heads of the free and the waiting chain, where 0 ends a chain,
 /// the line, the bytes of a begun message and how many they are, and the size of the memory.
+#[derive(Drop)]
 pub struct Slots {
     pub slots: [Slot; 16],
     pub free: u8,

@@ -84,7 +84,7 @@ run_by_values (suc k) e s o m n h =
 ---- what is played is what runs
 
 -- one answer, and then the others
-abbrev first_then : Answered → Answers → Answers
+abbrev pub first_then : Answered → Answers → Answers
 first_then a o zero = a
 first_then a o (suc i) = o i
 
@@ -157,7 +157,7 @@ happens_on [] us b b₁ b₂ h g = subst (λ (x : BusState). Happens us x b₂) 
 happens_on (looked s ∷ ts) us b b₁ b₂ h g = (h.0, happens_on ts us b b₁ b₂ h.1 g)
 happens_on (asked c y ∷ ts) us b b₁ b₂ h g = (h.0, h.1, happens_on ts us h.0 b₁ b₂ h.2 g)
 
-writes_on : (l k : List Written) (m : List ℕ) → writes (l ++ k) m ≡ writes k (writes l m)
+pub writes_on : (l k : List Written) (m : List ℕ) → writes (l ++ k) m ≡ writes k (writes l m)
 writes_on [] k m = refl
 writes_on (x ∷ l) k m = writes_on l k (set m x.at x.value)
 

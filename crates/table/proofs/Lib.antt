@@ -13,10 +13,12 @@ pub mod Theorem
 pub mod Reached
 pub mod Regions
 pub mod Isolated
+pub mod Alone
 pub mod Sounds
 pub mod Chains
 pub mod Views
 pub mod Walks
 pub mod Linking
 pub mod Meanings
+pub mod Meant
 pub mod Worked

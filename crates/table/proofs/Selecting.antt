@@ -32,7 +32,7 @@ use Rattle.table.proofs.Pointers.{beginning}
 use Rattle.table.proofs.Lines.{violates, lined}
 
 -- what a select says is understood as it was meant
-greeting_back : (leave : Bool) (lun : ℕ) (tag : Option ℕ) → lun < 8 → greeting_of (greeting_bytes leave lun tag) ≡ Some (record { lun = lun; leave = leave; tag = tag })
+pub greeting_back : (leave : Bool) (lun : ℕ) (tag : Option ℕ) → lun < 8 → greeting_of (greeting_bytes leave lun tag) ≡ Some (record { lun = lun; leave = leave; tag = tag })
 greeting_back leave lun None h = understood leave lun None ∙ ap (λ (l : ℕ). Some (record { lun = l; leave = leave; tag = None })) (low lun h)
   where
     low : (l : ℕ) → l < 8 → l % 8 ≡ l

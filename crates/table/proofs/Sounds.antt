@@ -131,7 +131,7 @@ module _ (e : Engine) (o : Sound e) where
       is_put Away h = wrong false h refl
       is_put (Finished o) h = refl
 
-  reset_sound : Sound (reset_engine e)
+  pub reset_sound : Sound (reset_engine e)
   reset_sound =
       record {
         range = λ k. reset_at (λ (y : Entry). in_use y.state ≡ true → numbered k ≡ true) open_or_waiting (e.slots k) (λ h _. o.range k (busy_used _ h)) (λ _. o.range k);

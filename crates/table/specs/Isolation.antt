@@ -142,3 +142,39 @@ pub record SameWay (e : Engine) (b : BusState) (m : List ℕ) (a : Answer) (w : 
 
 abbrev pub SameOnEveryBus : Type 0
 SameOnEveryBus = (e : Engine) → Sound e → (b : BusState) (m n : List ℕ) (a : Answer) (w : World) → Alike (InRegion is_out e) m n → Runs (step e) b m a w → SameWay e b m a w n
+
+---- what a call did, on a bus of any type, by what it shows and what one call of it does
+
+-- these calls, one after another
+abbrev pub HappensBy : {B : Type 0} → (B → Shown) → (B → Call → Reply → B → Type 0) → List Exchange → B → B → Type 0
+HappensBy see did [] b b' = b' ≡ b
+HappensBy see did (looked s ∷ ts) b b' = (s ≡ see b) × HappensBy see did ts b b'
+HappensBy {B} see did (asked c y ∷ ts) b b' = (b₁ : B) × did b c y b₁ × HappensBy see did ts b₁ b'
+
+-- what is played leaves this answer, engine, bus and memory
+pub record LeavesBy {B : Type 0} (see : B → Shown) (did : B → Call → Reply → B → Type 0) (p : Played) (b : B) (m : List ℕ) (a : Answer) (e' : Engine) (b' : B) (m' : List ℕ) : Type 0 where
+  pub transcript : HappensBy see did p.transcript b b'
+  pub answer : a ≡ p.answer
+  pub engine : e' ≡ p.engine
+  pub memory : m' ≡ writes p.written m
+
+-- what is played as a run leaves this engine, bus and memory, after so many steps, with this end
+pub record RunLeavesBy {B : Type 0} (see : B → Shown) (did : B → Call → Reply → B → Type 0) (r : Ran) (b : B) (m : List ℕ) (made : ℕ) (end : End) (e' : Engine) (b' : B) (m' : List ℕ) : Type 0 where
+  pub transcript : HappensBy see did r.transcript b b'
+  pub steps : made ≡ r.made
+  pub ended : end ≡ r.end
+  pub engine : e' ≡ r.engine
+  pub memory : m' ≡ writes r.written m
+
+-- a step was played against some answers of the bus, and over every other memory of this size that is alike inside the regions of
+-- uncollected writing commands these answers give the same calls on the bus, answer, engine and bytes written
+pub record StepIsolated {B : Type 0} (see : B → Shown) (did : B → Call → Reply → B → Type 0) (e : Engine) (b : B) (m : List ℕ) (a : Answer) (e' : Engine) (b' : B) (m' : List ℕ) : Type 0 where
+  pub answers : Answers
+  pub here : LeavesBy see did (play answers (step e) m) b m a e' b' m'
+  pub there : (n : List ℕ) → Alike (InRegion is_out e) m n → play answers (step e) m ≡ play answers (step e) n
+
+-- and so was a run of at most k steps
+pub record RunIsolated {B : Type 0} (see : B → Shown) (did : B → Call → Reply → B → Type 0) (k : ℕ) (e : Engine) (b : B) (m : List ℕ) (made : ℕ) (end : End) (e' : Engine) (b' : B) (m' : List ℕ) : Type 0 where
+  pub answers : Answers
+  pub here : RunLeavesBy see did (play_run k answers e m) b m made end e' b' m'
+  pub there : (n : List ℕ) → Alike (InRegion is_out e) m n → play_run k answers e m ≡ play_run k answers e n

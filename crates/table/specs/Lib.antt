@@ -8,4 +8,5 @@ pub mod Guarantee
 pub mod Sound
 pub mod Regions
 pub mod Isolation
+pub mod Meant
 pub mod Cases

@@ -1,5 +1,5 @@
 -- The engine of the step table as a function of the fields that the code keeps. Assumes nothing.
-use Rattle.std.specs.Prelude.{◌≡◌, ℕ, zero, suc, ◌-◌, Bool, true, false, cond, List, [], ◌∷◌, map, take, None, ◌==◌, slice_index_or}
+use Rattle.std.specs.Prelude.{replicate, ◌≡◌, ℕ, zero, suc, ◌-◌, Bool, true, false, cond, List, [], ◌∷◌, map, take, None, ◌==◌, slice_index_or}
 use Rattle.scsi.specs.declared.cdb.Cdb.TheVariants.{Six}
 use Rattle.scsi.specs.Kept.{cdb_bytes}
 use Rattle.shelf.specs.declared.Way.TheVariants.{Still}
@@ -110,6 +110,10 @@ fresh_slot n = record {
 -- the slots of an engine just made: the free chain is 1 to 16
 abbrev pub fresh_slots : List Slot
 fresh_slots = map fresh_slot (2 ∷ 3 ∷ 4 ∷ 5 ∷ 6 ∷ 7 ∷ 8 ∷ 9 ∷ 10 ∷ 11 ∷ 12 ∷ 13 ∷ 14 ∷ 15 ∷ 16 ∷ 0 ∷ [])
+
+-- all that an engine just made keeps, for a memory of this size
+abbrev pub fresh_fields : ℕ → Slots
+fresh_fields n = record { slots = fresh_slots; free = 1; waiting = 0; line = Idle; begun = replicate 258 0; heard = 0; size = n }
 
 -- finished RESET, where its state passes the test
 abbrev pub reset_slot : (State → Bool) → Slot → Slot

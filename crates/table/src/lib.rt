@@ -2,6 +2,7 @@
 #![tactic(auto)]
 
 ghost use Rattle.table.specs.Guarantee.{EveryListKeeps, EveryCallIsLawful, DoneIsReached};
+ghost use Rattle.table.specs.Meant.{SpokenAsMeant, NumberedAlike, FinishedIsCollectable};
 ghost use Rattle.table.specs.Sound.{SoundOnEveryBus};
 ghost use Rattle.table.specs.Regions.{KeepsToRegions, StepWritesInside, RunWritesInside};
 ghost use Rattle.table.specs.Isolation.{StepByValues, RunByValues, RunsAsPlayed, RunAsPlayed, SameOnEveryBus};
@@ -50,6 +51,15 @@ pub fn isolated_by_values() -> u8
     ensures step_as_played { RunsAsPlayed }
     ensures run_as_played { RunAsPlayed }
     ensures on_every_bus { SameOnEveryBus }
+{
+    0
+}
+
+/// What is spoken reads back as the message meant, and numbers and reports mean what their names say.
+pub fn words_mean_what_they_say() -> u8
+    ensures spoken { SpokenAsMeant }
+    ensures numbers { NumberedAlike }
+    ensures finished { FinishedIsCollectable }
 {
     0
 }

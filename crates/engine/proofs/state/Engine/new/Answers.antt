@@ -11,4 +11,5 @@ pub returns : goal.returns
 returns c = record {
   made = made_fresh (record { slots = c.fresh_slots.result; free = 1; waiting = 0; line = Idle; begun = replicate {A = ℕ} 258 0; heard = 0; size = c.args.size.bytes }) c.fresh_slots.ensures refl refl refl;
   size = refl;
+  fields = λ i. record { slots = c.fresh_slots.ensures i; free = 1; waiting = 0; line = Idle; begun = replicate {A = ℕ} 258 0; heard = 0; size = c.args.size.bytes };
 }
