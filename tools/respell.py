@@ -13,6 +13,8 @@ NAME = r"(?:[^\W\d][\w']*(?:-[\w']+)+|[A-Z][a-z0-9]+_[a-z]\w*)"
 HYPHENED = re.compile(r"(?<![\w'-])" + NAME + r"(?![\w'-])")
 IMPORT = re.compile(r"use ([\w.]+)\.\{([^}]*)\}")
 LIBRARY = ("Rattle.std", "Rattle.core", "mathlib", "lib.", "Prim")
+# a name that no rule brings to a spelling
+BY_HAND = {"256-blocks": "blocks_256"}
 GHOST = re.compile(r"^\s*(ghost |requires|ensures|let .*:\s*ghost)")
 
 
@@ -76,6 +78,8 @@ def main():
             code, comment = without_comment(line, "--" if path.endswith(".antt") else "//")
             if path.endswith(".antt") or GHOST.match(code):
                 code = HYPHENED.sub(turn, code)
+                for old, new in BY_HAND.items():
+                    code = code.replace(old, new)
             lines.append(code + comment)
         turned = "\n".join(lines)
         if turned != text:

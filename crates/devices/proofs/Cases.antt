@@ -11,5 +11,5 @@ disk_cases = record {
   one_block_way = λ t. rw (same t);
   one_block_count = λ t. rw (same t);
   two_blocks = λ t. record { way = rw (same t); count = rw (same t); status = λ held. rw (same t) };
-  256-blocks = λ t. record { way = rw (same t); count = rw (same t); status = λ held. rw (same t) };
+  blocks_256 = λ t. record { way = rw (same t); count = rw (same t); status = λ held. rw (same t) };
 }

@@ -20,4 +20,4 @@ pub record DiskCases : Type 0 where
   pub one_block_count : (t : ℕ) → (device_kind t (disk 64)).count t 0 (read_63 1) ≡ 512
   pub two_blocks : (t : ℕ) → TurnedDown (device_kind t (disk 64)) t (read_63 2)
   -- a count byte of 0 means 256
-  pub 256-blocks : (t : ℕ) → TurnedDown (device_kind t (disk 64)) t (read_63 0)
+  pub blocks_256 : (t : ℕ) → TurnedDown (device_kind t (disk 64)) t (read_63 0)
