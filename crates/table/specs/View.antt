@@ -1,5 +1,5 @@
 -- The engine of the step table as a function of the fields that the code keeps. Assumes nothing.
-use Rattle.std.specs.Prelude.{replicate, ◌≡◌, ℕ, zero, suc, ◌-◌, Bool, true, false, cond, List, [], ◌∷◌, map, take, None, ◌==◌, slice_index_or}
+use Rattle.std.specs.Prelude.{◌≡◌, ℕ, zero, suc, ◌-◌, Bool, true, false, cond, List, [], ◌∷◌, map, take, replicate, None, ◌==◌, slice_index_or}
 use Rattle.scsi.specs.declared.cdb.Cdb.TheVariants.{Six}
 use Rattle.scsi.specs.Kept.{cdb_bytes}
 use Rattle.shelf.specs.declared.Way.TheVariants.{Still}
