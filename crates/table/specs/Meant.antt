@@ -10,7 +10,7 @@ use Rattle.table.specs.Table.{abort_message, greeting_for}
 use Rattle.table.specs.Calls.{manner_of, direction_of, collect_answer}
 use Rattle.table.specs.Serving.{finished_at}
 
--- what the engine speaks, and greets a target with, is read as the message meant
+-- what the engine speaks (07h to reject, 08h where it has nothing to say), and greets a target with, is read as the message meant
 pub record SpokenAsMeant : Type 0 where
   pub rejects : ReadsBack (0x07 ∷ []) reject
   pub nothing : ReadsBack (0x08 ∷ []) no_operation
