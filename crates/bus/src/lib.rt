@@ -9,6 +9,11 @@ ghost use Rattle.bus.specs.Effects.{aborts};
 ghost use Rattle.bus.specs.Showing.{Shows};
 ghost use Rattle.bus.specs.Rules.{Did, PausingIsAllowed};
 ghost use Rattle.bus.specs.Counting.{AlwaysCounted};
+ghost use Rattle.bus.specs.Kinds.{kind_of, byte_shown};
+
+use scsi::Cdb;
+use std::error::Error;
+use std::fmt;
 
 /// What a bus shows: its phase, with the byte or the target that goes with it.
 #[derive(Clone, Copy, PartialEq, Eq, Debug)]
@@ -26,6 +31,46 @@ pub enum Shown {
     Pause,
 }
 
+impl Shown {
+    /// The number of its kind.
+    pub fn kind(self) -> u8
+        ensures { result ≡ kind_of self }
+    {
+        match self {
+            Shown::DataOut => 0,
+            Shown::DataIn(_) => 1,
+            Shown::Command => 2,
+            Shown::Status(_) => 3,
+            Shown::Reserved4 => 4,
+            Shown::Reserved5 => 5,
+            Shown::MessageOut => 6,
+            Shown::MessageIn(_) => 7,
+            Shown::Free => 8,
+            Shown::Reselect(_) => 9,
+            Shown::Pause => 10,
+        }
+    }
+
+    /// The byte that goes with it.
+    pub fn byte(self) -> Option<u8>
+        ensures { result ≡ byte_shown self }
+    {
+        match self {
+            Shown::DataIn(byte) | Shown::Status(byte) | Shown::MessageIn(byte) => Some(byte),
+            _ => None,
+        }
+    }
+}
+
+/// How far the nexus has come, if there is one: it is fresh, has its command, or has its command and its status.
+#[derive(Clone, Copy, PartialEq, Eq, Debug)]
+pub enum Stage {
+    Empty,
+    Fresh,
+    Commanded(Cdb),
+    Ended(Cdb, u8),
+}
+
 /// What a selection came to.
 #[derive(Clone, Copy, PartialEq, Eq, Debug)]
 pub enum Selection {
@@ -40,6 +85,14 @@ pub enum Refusal {
     Misfit,
 }
 
+impl fmt::Display for Refusal {
+    fn fmt<W: fmt::Write>(&self, f: &mut fmt::Formatter<W>) -> fmt::Result {
+        f.write_str("the bus refused a call")
+    }
+}
+
+impl Error for Refusal {}
+
 /// Whether a message that is spoken closes the nexus that holds the line: just ABORT, or just ABORT TAG.
 pub fn is_abort(message: &[u8]) -> bool
     ensures { result ≡ aborts message.now }
@@ -48,18 +101,14 @@ pub fn is_abort(message: &[u8]) -> bool
 }
 
 /// A bus that only pauses keeps the rules.
-pub fn pausing_is_allowed() -> u8
+pub fn pausing_is_allowed()
     ensures { PausingIsAllowed }
-{
-    0
-}
+{}
 
 /// On a bus in order that began at rest, the number of open nexuses is always theirs, and at most sixteen.
-pub fn nexuses_are_counted() -> u8
+pub fn nexuses_are_counted()
     ensures { AlwaysCounted }
-{
-    0
-}
+{}
 
 /// A bus with the units of a shelf behind it.
 pub trait Bus {

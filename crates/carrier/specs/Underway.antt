@@ -1,11 +1,12 @@
 -- A command underway, as its driver and its bus know it. Assumes nothing.
-use Rattle.std.specs.Prelude.{◌≡◌, ℕ, ◌<◌, ◌≤◌, Bool, true, false, List, [], length, Some, None, Ok, Err, Option, Result, slice_index}
+use Rattle.std.specs.Prelude.{⊤, ◌≡◌, ℕ, ◌<◌, ◌≤◌, true, List, [], length, Some, None, Ok, Err, Option, Result, slice_index}
+use Rattle.std.specs.declared.ops.ControlFlow.{ControlFlow}
+use Rattle.std.specs.declared.ops.ControlFlow.TheVariants.{Continue, Break}
 use Rattle.shelf.specs.declared.Way.TheVariants.{In, Out}
 use Rattle.shelf.specs.Model.{Model, way_of, count_of, byte_of, status_of}
 use Rattle.shelf.specs.Serving.{outs}
 use Rattle.bus.specs.State.{Name, Nexus, BusState}
 use Rattle.bus.specs.Single.{resting, holding}
-use Rattle.carrier.specs.declared.Underway.{Underway}
 use Rattle.carrier.specs.declared.Carried.{Carried}
 use Rattle.carrier.specs.declared.Trouble.{Trouble}
 use Rattle.carrier.specs.Carrying.{ServedWhole}
@@ -18,19 +19,19 @@ pub record Moved (m : Model) (n : Name) (c out : List ℕ) (k : ℕ) (into : Lis
   pub taken : way_of m n.target n.lun c ≡ In → (i : ℕ) → i < k → slice_index into i ≡ byte_of m n.target n.lun c i
 
 -- the status has come, after all data
-pub record Told (m : Model) (n : Name) (c : List ℕ) (u : Underway) (st : ℕ) : Type 0 where
+pub record Told (m : Model) (n : Name) (c : List ℕ) (u : Carried) (st : ℕ) : Type 0 where
   pub noted : u.status ≡ st
   pub status : st ≡ status_of m n.target n.lun c
   pub count : u.moved ≡ count_of m n.target n.lun c
 
 -- before the command was sent, after it, and after the status
-abbrev pub SoFar : Model → Name → List ℕ → List ℕ → Underway → List ℕ → Nexus → Option (List ℕ) → Option ℕ → Type 0
+abbrev pub SoFar : Model → Name → List ℕ → List ℕ → Carried → List ℕ → Nexus → Option (List ℕ) → Option ℕ → Type 0
 SoFar m n c out u into x None st = (x.place ≡ 0) × (x.collected ≡ []) × (st ≡ None)
 SoFar m n c out u into x (Some d) None = (d ≡ c) × Moved m n c out x.place into x
 SoFar m n c out u into x (Some d) (Some st) = (d ≡ c) × Moved m n c out x.place into x × Told m n c u st
 
 -- the nexus n holds the line, and is as far as the driver
-pub record Going (m : Model) (n : Name) (c out : List ℕ) (u : Underway) (into : List ℕ) (b : BusState) : Type 0 where
+pub record Going (m : Model) (n : Name) (c out : List ℕ) (u : Carried) (into : List ℕ) (b : BusState) : Type 0 where
   pub nexus : Nexus
   pub order : b.order ≡ true
   pub cable : b.cable ≡ holding m n nexus
@@ -49,21 +50,15 @@ pub record Unchanged (m : Model) (b : BusState) : Type 0 where
   pub order : b.order ≡ true
   pub shelf : b.cable.shelf ≡ m
 
-abbrev pub carried_by : Underway → Carried
-carried_by u = record { status = u.status; moved = u.moved }
-
-abbrev pub ByEnd : Model → Name → List ℕ → List ℕ → Underway → List ℕ → BusState → Bool → Type 0
-ByEnd m n c out u into b true = Over m n c out (carried_by u) into b
-ByEnd m n c out u into b false = Going m n c out u into b
-
--- one turn further
-abbrev pub Turned : Model → Name → List ℕ → List ℕ → Result Underway Trouble → List ℕ → BusState → Type 0
-Turned m n c out (Ok u) into b = ByEnd m n c out u into b u.complete
-Turned m n c out (Err e) into b = Unchanged m b
+-- one turn further, or at the end
+abbrev pub Turned : Model → Name → List ℕ → List ℕ → Result (ControlFlow ⊤ ⊤) Trouble → Carried → List ℕ → BusState → Type 0
+Turned m n c out (Ok (Continue _)) u into b = Going m n c out u into b
+Turned m n c out (Ok (Break _)) u into b = Over m n c out u into b
+Turned m n c out (Err e) u into b = Unchanged m b
 
 -- at the beginning
-abbrev pub begun : Underway
-begun = record { status = 0; moved = 0; complete = false }
+abbrev pub begun : Carried
+begun = record { status = 0; moved = 0 }
 
 -- at the end
 abbrev pub Ends : Model → Name → List ℕ → List ℕ → Result Carried Trouble → List ℕ → BusState → Type 0

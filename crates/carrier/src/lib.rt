@@ -1,16 +1,19 @@
 // One command at a time over any bus, by bus calls alone.
 #![tactic(auto)]
 
-ghost use Rattle.std.specs.Prelude.{◌≡◌, ◌%◌, ◌<◌, ◌≤◌, false, [], IfOk, None, Err};
+ghost use Rattle.std.specs.Prelude.{◌≡◌, ◌%◌, ◌<◌, ◌≤◌, [], IfOk, None, Err};
 ghost use Rattle.shelf.specs.Model.{Model};
 ghost use Rattle.bus.specs.State.{Name, AtRest};
 ghost use Rattle.carrier.specs.Carrying.{KeptFrom, Carries};
 ghost use Rattle.carrier.specs.Underway.{Going, Turned, Ends, begun};
+ghost use Rattle.carrier.specs.declared.Trouble.TheVariants.{Refused};
 
-use bus::{Bus, Selection, Shown};
+use bus::{Bus, Refusal, Selection, Shown};
 use scsi::Greeting;
+use shelf::Unit;
 use std::error::Error;
 use std::fmt;
+use std::ops::ControlFlow;
 
 /// A command that ran to its end: its status, and how many data bytes moved.
 #[derive(Clone, Copy, PartialEq, Eq, Debug)]
@@ -52,18 +55,25 @@ impl fmt::Display for Trouble {
             Trouble::Unexpected(shown) => return write!(f, "the bus showed {shown:?}"),
             Trouble::Endless => "the command did not end",
         };
-        write!(f, "{text}")
+        f.write_str(text)
     }
 }
 
 impl Error for Trouble {}
 
-// A command underway: the status once it came, the data bytes moved, and whether it is complete.
+impl From<Refusal> for Trouble {
+    ghost from_gives = { λ _ e. e ≡ Refused };
+
+    fn from(_refusal: Refusal) -> Self {
+        Self::Refused
+    }
+}
+
+// What goes out to a unit: a command's bytes, and the data bytes that it may ask for.
 #[derive(Clone, Copy)]
-struct Underway {
-    status: u8,
-    moved: usize,
-    complete: bool,
+struct Sent<'a> {
+    command: &'a [u8],
+    out: &'a [u8],
 }
 
 const COMMAND_COMPLETE: u8 = 0x00;
@@ -75,176 +85,118 @@ const TURNS: u32 = 1_000_000;
 /// `out`. In trouble the bus is reset, so that the line is free again; a LUN above 7 is refused before any call on it.
 pub fn carry_out<B: Bus>(
     bus: &mut B,
-    target: u8,
-    lun: u8,
+    unit: Unit,
     command: &[u8],
     out: &[u8],
 ) -> Result<Carried, Trouble>
-    ensures lun { 7 < lun → (result ≡ Err Trouble.NoSuchLun) × (bus.new ≡ bus.old) }
-    ensures carries { AtRest (B.Bus.means bus.old) → Carries (B.Bus.means bus.old) target lun command.now out.now result [] (B.Bus.means bus.new) }
+    ensures lun { 7 < unit.lun → (result ≡ Err Trouble.NoSuchLun) × (bus.new ≡ bus.old) }
+    ensures carries { AtRest (B.Bus.means bus.old) → Carries (B.Bus.means bus.old) unit.target unit.lun command.now out.now result [] (B.Bus.means bus.new) }
 {
-    carry(bus, target, lun, command, out, &mut [])
+    carry(bus, unit, Sent { command, out }, &mut [])
 }
 
 /// The same for a command whose data comes in; it is put into `into`, which keeps what it held past the data.
 pub fn carry_in<B: Bus>(
     bus: &mut B,
-    target: u8,
-    lun: u8,
+    unit: Unit,
     command: &[u8],
     into: &mut [u8],
 ) -> Result<Carried, Trouble>
     ensures kept { IfOk result (λ c. KeptFrom c.moved into.old into.new) }
-    ensures lun { 7 < lun → (result ≡ Err Trouble.NoSuchLun) × (bus.new ≡ bus.old) × (into.new ≡ into.old) }
-    ensures carries { AtRest (B.Bus.means bus.old) → Carries (B.Bus.means bus.old) target lun command.now [] result into.new (B.Bus.means bus.new) }
+    ensures lun { 7 < unit.lun → (result ≡ Err Trouble.NoSuchLun) × (bus.new ≡ bus.old) × (into.new ≡ into.old) }
+    ensures carries { AtRest (B.Bus.means bus.old) → Carries (B.Bus.means bus.old) unit.target unit.lun command.now [] result into.new (B.Bus.means bus.new) }
 {
-    carry(bus, target, lun, command, &[], into)
+    carry(bus, unit, Sent { command, out: &[] }, into)
 }
 
 // Carries a command whose data may go either way.
-fn carry<B: Bus>(
-    bus: &mut B,
-    target: u8,
-    lun: u8,
-    command: &[u8],
-    out: &[u8],
-    into: &mut [u8],
-) -> Result<Carried, Trouble>
+fn carry<B: Bus>(bus: &mut B, unit: Unit, sent: Sent, into: &mut [u8]) -> Result<Carried, Trouble>
     ensures kept { IfOk result (λ c. KeptFrom c.moved into.old into.new) }
-    ensures lun { 7 < lun → (result ≡ Err Trouble.NoSuchLun) × (bus.new ≡ bus.old) × (into.new ≡ into.old) }
-    ensures carries { AtRest (B.Bus.means bus.old) → Carries (B.Bus.means bus.old) target lun command.now out.now result into.new (B.Bus.means bus.new) }
+    ensures lun { 7 < unit.lun → (result ≡ Err Trouble.NoSuchLun) × (bus.new ≡ bus.old) × (into.new ≡ into.old) }
+    ensures carries { AtRest (B.Bus.means bus.old) → Carries (B.Bus.means bus.old) unit.target unit.lun sent.entry.command.now sent.entry.out.now result into.new (B.Bus.means bus.new) }
 {
-    if lun > 7 {
+    if unit.lun > 7 {
         return Err(Trouble::NoSuchLun);
     }
-    match run(bus, target, lun, command, out, into) {
-        Ok(carried) => Ok(carried),
-        Err(trouble) => {
-            bus.reset();
-            Err(trouble)
-        }
+    let carried = run(bus, unit, sent, into);
+    if carried.is_err() {
+        bus.reset();
     }
+    carried
 }
 
 // Selects the unit, and drives the command to its end.
-fn run<B: Bus>(
-    bus: &mut B,
-    target: u8,
-    lun: u8,
-    command: &[u8],
-    out: &[u8],
-    into: &mut [u8],
-) -> Result<Carried, Trouble>
+fn run<B: Bus>(bus: &mut B, unit: Unit, sent: Sent, into: &mut [u8]) -> Result<Carried, Trouble>
     ensures kept { IfOk result (λ c. KeptFrom c.moved into.old into.new) }
-    ensures ends { AtRest (B.Bus.means bus.old) → Ends (B.Bus.means bus.old).cable.shelf (record { target = target; lun = lun % 8; tag = None }) command.now out.now result into.new (B.Bus.means bus.new) }
+    ensures ends { AtRest (B.Bus.means bus.old) → Ends (B.Bus.means bus.old).cable.shelf (record { target = unit.target; lun = unit.lun % 8; tag = None }) sent.entry.command.now sent.entry.out.now result into.new (B.Bus.means bus.new) }
 {
     let greeting = Greeting {
-        lun,
+        lun: unit.lun,
         leave: false,
         tag: None,
     };
-    match bus.select(target, greeting.bytes().as_slice()) {
-        Ok(Selection::Selected) => drive(bus, command, out, into),
-        Ok(Selection::Lost) => Err(Trouble::Lost),
-        Ok(Selection::Absent) => Err(Trouble::Absent),
-        Err(_) => Err(Trouble::Refused),
+    match bus.select(unit.target, greeting.bytes().as_slice())? {
+        Selection::Selected => drive(bus, sent, into),
+        Selection::Lost => Err(Trouble::Lost),
+        Selection::Absent => Err(Trouble::Absent),
     }
 }
 
 // Drives the command of the nexus that holds the line to its end.
-fn drive<B: Bus>(
-    bus: &mut B,
-    command: &[u8],
-    out: &[u8],
-    into: &mut [u8],
-) -> Result<Carried, Trouble>
+fn drive<B: Bus>(bus: &mut B, sent: Sent, into: &mut [u8]) -> Result<Carried, Trouble>
     ensures kept { IfOk result (λ c. KeptFrom c.moved into.old into.new) }
-    ensures ends { (m : Model) (n : Name) → Going m n command.now out.now begun into.old (B.Bus.means bus.old) → Ends m n command.now out.now result into.new (B.Bus.means bus.new) }
+    ensures ends { (m : Model) (n : Name) → Going m n sent.entry.command.now sent.entry.out.now begun into.old (B.Bus.means bus.old) → Ends m n sent.entry.command.now sent.entry.out.now result into.new (B.Bus.means bus.new) }
 {
-    let mut so_far = Underway {
+    // Status 0 until one comes: `None` would want an error of its own, for a bus not in order that ends a command without one.
+    let mut carried = Carried {
         status: 0,
         moved: 0,
-        complete: false,
     };
     for _ in 0..TURNS {
-        so_far = match turn(bus, so_far, command, out, into) {
-            Ok(further) => further,
-            Err(trouble) => return Err(trouble),
-        };
-        if so_far.complete {
-            return Ok(Carried {
-                status: so_far.status,
-                moved: so_far.moved,
-            });
+        if turn(bus, &mut carried, sent, into)?.is_break() {
+            return Ok(carried);
         }
     }
     Err(Trouble::Endless)
 }
 
-// Looks once, and does what the bus shows.
+// Looks once, does what the bus shows, and breaks at COMMAND COMPLETE; the status stands once it came.
 fn turn<B: Bus>(
     bus: &mut B,
-    so_far: Underway,
-    command: &[u8],
-    out: &[u8],
+    carried: &mut Carried,
+    sent: Sent,
     into: &mut [u8],
-) -> Result<Underway, Trouble>
-    ensures further { IfOk result (λ u. so_far.moved ≤ u.moved) }
-    ensures kept { IfOk result (λ u. KeptFrom u.moved into.old into.new) }
-    ensures goes { (m : Model) (n : Name) → so_far.complete ≡ false → Going m n command.now out.now so_far into.old (B.Bus.means bus.old) → Turned m n command.now out.now result into.new (B.Bus.means bus.new) }
+) -> Result<ControlFlow<()>, Trouble>
+    ensures further { carried.old.moved ≤ carried.new.moved }
+    ensures kept { KeptFrom carried.new.moved into.old into.new }
+    ensures goes { (m : Model) (n : Name) → Going m n sent.entry.command.now sent.entry.out.now carried.old into.old (B.Bus.means bus.old) → Turned m n sent.entry.command.now sent.entry.out.now result carried.new into.new (B.Bus.means bus.new) }
 {
     match bus.look() {
-        Shown::Command => match bus.command(command) {
-            Ok(()) => Ok(so_far),
-            Err(_) => Err(Trouble::Refused),
-        },
+        Shown::Command => bus.command(sent.command)?,
         Shown::DataOut => {
-            if so_far.moved >= out.len() {
-                return Err(Trouble::OutOfData);
-            }
-            match bus.give(out[so_far.moved]) {
-                Ok(()) => Ok(Underway {
-                    moved: so_far.moved + 1,
-                    ..so_far
-                }),
-                Err(_) => Err(Trouble::Refused),
-            }
+            let byte = sent
+                .out
+                .get(carried.moved)
+                .copied()
+                .ok_or(Trouble::OutOfData)?;
+            bus.give(byte)?;
+            carried.moved += 1;
         }
         Shown::DataIn(_) => {
-            if so_far.moved >= into.len() {
+            // By its index: once a borrow from `get_mut` is over, a proof knows the slice's length and no byte of it.
+            if carried.moved >= into.len() {
                 return Err(Trouble::OutOfSpace);
             }
-            match bus.take() {
-                Ok(byte) => {
-                    into[so_far.moved] = byte;
-                    Ok(Underway {
-                        moved: so_far.moved + 1,
-                        ..so_far
-                    })
-                }
-                Err(_) => Err(Trouble::Refused),
-            }
+            into[carried.moved] = bus.take()?;
+            carried.moved += 1;
         }
-        Shown::Status(_) => match bus.take() {
-            Ok(status) => Ok(Underway { status, ..so_far }),
-            Err(_) => Err(Trouble::Refused),
-        },
-        Shown::MessageIn(message) => {
-            if message != COMMAND_COMPLETE {
-                return Err(Trouble::Unexpected(Shown::MessageIn(message)));
-            }
-            match bus.take() {
-                Ok(_) => Ok(Underway {
-                    complete: true,
-                    ..so_far
-                }),
-                Err(_) => Err(Trouble::Refused),
-            }
+        Shown::Status(_) => carried.status = bus.take()?,
+        Shown::MessageIn(COMMAND_COMPLETE) => {
+            bus.take()?;
+            return Ok(ControlFlow::Break(()));
         }
-        Shown::Pause => {
-            bus.wait();
-            Ok(so_far)
-        }
-        other => Err(Trouble::Unexpected(other)),
+        Shown::Pause => bus.wait(),
+        other => return Err(Trouble::Unexpected(other)),
     }
+    Ok(ControlFlow::Continue(()))
 }

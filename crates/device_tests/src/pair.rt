@@ -1,4 +1,4 @@
-use crate::rows::{Row, check_rows};
+use crate::rows::{Row, at, check_rows};
 use devices::{Disk, Pair, Recorder};
 use shelf::{Shelf, Way};
 use std::test::Fail;
@@ -13,15 +13,18 @@ fn each_at_its_own_target(rt: HostRuntime) -> Result<(), Fail> {
         &rt,
         &pair,
         &[
-            Row(1, 0, [0x0A, 0, 0, 0, 1, 0], Way::Out, 512, 0),
-            Row(2, 0, [0x0A, 0, 0, 0, 1, 0], Way::Still, 0, 2),
-            Row(2, 0, [0x0A, 0, 0, 0, 128, 0], Way::Out, 128, 0),
-            Row(0, 0, [0x00, 0, 0, 0, 0, 0], Way::Still, 0, 2),
+            Row(at(1, 0), [0x0A, 0, 0, 0, 1, 0], Way::Out, 512, 0),
+            Row(at(2, 0), [0x0A, 0, 0, 0, 1, 0], Way::Still, 0, 2),
+            Row(at(2, 0), [0x0A, 0, 0, 0, 128, 0], Way::Out, 128, 0),
+            Row(at(0, 0), [0x00, 0, 0, 0, 0, 0], Way::Still, 0, 2),
         ],
     );
-    assert_eq!(rt; pair.finish(1, 0, &[0x0A, 0, 0, 7, 1, 0], &[3; 512]), 0);
-    assert_eq!(rt; pair.finish(2, 0, &[0x0A, 0, 0, 0, 128, 0], &[4; 128]), 0);
-    assert_eq!(rt; pair.byte(1, 0, &[0x08, 0, 0, 7, 1, 0], 0), 3);
+    assert_eq!(rt; pair.finish(at(1, 0), &[0x0A, 0, 0, 7, 1, 0], &[3; 512]), 0);
+    assert_eq!(rt;
+        pair.finish(at(2, 0), &[0x0A, 0, 0, 0, 128, 0], &[4; 128]),
+        0
+    );
+    assert_eq!(rt; pair.byte(at(1, 0), &[0x08, 0, 0, 7, 1, 0], 0), 3);
     assert_eq!(rt; pair.second.film(), [4; 128].as_slice());
     Ok(())
 }
@@ -35,12 +38,12 @@ fn first_answers_where_both_are(rt: HostRuntime) -> Result<(), Fail> {
         &rt,
         &pair,
         &[
-            Row(1, 0, [0x0A, 0, 0, 0, 1, 0], Way::Out, 512, 0),
-            Row(1, 0, [0x0A, 0, 0, 0, 128, 0], Way::Still, 0, 2),
+            Row(at(1, 0), [0x0A, 0, 0, 0, 1, 0], Way::Out, 512, 0),
+            Row(at(1, 0), [0x0A, 0, 0, 0, 128, 0], Way::Still, 0, 2),
         ],
     );
-    assert_eq!(rt; pair.finish(1, 0, &[0x0A, 0, 0, 0, 1, 0], &[3; 512]), 0);
-    assert_eq!(rt; pair.byte(1, 0, &[0x08, 0, 0, 0, 1, 0], 511), 3);
+    assert_eq!(rt; pair.finish(at(1, 0), &[0x0A, 0, 0, 0, 1, 0], &[3; 512]), 0);
+    assert_eq!(rt; pair.byte(at(1, 0), &[0x08, 0, 0, 0, 1, 0], 511), 3);
     assert_eq!(rt; pair.second.film().len(), 0);
     Ok(())
 }

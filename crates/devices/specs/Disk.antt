@@ -5,7 +5,8 @@ use Rattle.shelf.specs.declared.Way.TheVariants.{Still, In, Out}
 use Rattle.shelf.specs.Model.{Model}
 use Rattle.devices.specs.declared.device.MakeError.{MakeError}
 use Rattle.devices.specs.declared.device.MakeError.TheVariants.{TooManyBlocks}
-use Rattle.devices.specs.declared.disk.Disk.{Disk}
+use Rattle.devices.specs.declared.device.At.{At}
+use Rattle.devices.specs.declared.disk.Blocks.{Blocks}
 use Rattle.devices.specs.Making.{refused_at}
 use Rattle.devices.specs.Device.{Device, overlaid, device_model}
 
@@ -39,5 +40,5 @@ abbrev pub disk_refused : ℕ → ℕ → Option MakeError
 disk_refused at blocks = refused_at at (cond (nat_le blocks 2097152) None (Some TooManyBlocks))
 
 -- what a Disk means
-abbrev pub disk_means : Disk → Model
-disk_means d = device_model d.target (disk (vec_len d.bytes / 512)) (vec_items d.bytes)
+abbrev pub disk_means : At Blocks → Model
+disk_means d = device_model d.target (disk (vec_len d.device.bytes / 512)) (vec_items d.device.bytes)

@@ -1,8 +1,9 @@
 -- A film recorder. Assumes nothing.
-use Rattle.std.specs.Prelude.{ℕ, ◌+◌, ◌*◌, ◌%◌, Bool, cond, ◌&&◌, List, ◌++◌, length, take, vec_items, vec_len, ◌==◌, nat_le, slice_index}
+use Rattle.std.specs.Prelude.{ℕ, ◌+◌, ◌*◌, ◌%◌, Bool, cond, ◌&&◌, List, ◌++◌, length, vec_items, vec_capacity, ◌==◌, nat_le, slice_index}
 use Rattle.shelf.specs.declared.Way.TheVariants.{Still, Out}
 use Rattle.shelf.specs.Model.{Model}
-use Rattle.devices.specs.declared.recorder.Recorder.{Recorder}
+use Rattle.devices.specs.declared.device.At.{At}
+use Rattle.devices.specs.declared.recorder.Film.{Film}
 use Rattle.devices.specs.Device.{Device, device_model}
 
 -- how many bytes a PRINT speaks of
@@ -23,9 +24,6 @@ recorder capacity = record {
   filled = λ held c o. held ++ o;
 }
 
--- what a Recorder's film holds, and what a Recorder means
-abbrev pub film_of : Recorder → List ℕ
-film_of r = take r.film.used (vec_items r.film.storage)
-
-abbrev pub recorder_means : Recorder → Model
-recorder_means r = device_model r.target (recorder (vec_len r.film.storage)) (film_of r)
+-- what a Recorder means
+abbrev pub recorder_means : At Film → Model
+recorder_means r = device_model r.target (recorder (vec_capacity r.device.bytes)) (vec_items r.device.bytes)

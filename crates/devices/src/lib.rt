@@ -3,11 +3,10 @@
 
 mod device;
 mod disk;
-mod film;
 mod pair;
 mod recorder;
 
-pub use device::MakeError;
-pub use disk::Disk;
+pub use device::{At, Device, MakeError};
+pub use disk::{Blocks, Disk};
 pub use pair::Pair;
-pub use recorder::Recorder;
+pub use recorder::{Film, Recorder};

@@ -2,7 +2,7 @@
 ghost use Rattle.devices.specs.Pair.{pair_model};
 ghost use Rattle.std.proofs.Common.{rules};
 
-use shelf::{Shelf, Way};
+use shelf::{Shelf, Unit, Way};
 
 /// The first shelf answers for the targets that it has, the second for all others.
 #[derive(Drop)]
@@ -20,35 +20,35 @@ impl<X: Shelf, Y: Shelf> Shelf for Pair<X, Y> {
         self.first.present(target) || self.second.present(target)
     }
 
-    fn way(&self, target: u8, lun: u8, command: &[u8]) -> (Way, u16) {
-        if self.first.present(target) {
-            self.first.way(target, lun, command)
+    fn way(&self, unit: Unit, command: &[u8]) -> (Way, u16) {
+        if self.first.present(unit.target) {
+            self.first.way(unit, command)
         } else {
-            self.second.way(target, lun, command)
+            self.second.way(unit, command)
         }
     }
 
-    fn byte(&self, target: u8, lun: u8, command: &[u8], place: u16) -> u8 {
-        if self.first.present(target) {
-            self.first.byte(target, lun, command, place)
+    fn byte(&self, unit: Unit, command: &[u8], place: u16) -> u8 {
+        if self.first.present(unit.target) {
+            self.first.byte(unit, command, place)
         } else {
-            self.second.byte(target, lun, command, place)
+            self.second.byte(unit, command, place)
         }
     }
 
-    fn status(&self, target: u8, lun: u8, command: &[u8]) -> u8 {
-        if self.first.present(target) {
-            self.first.status(target, lun, command)
+    fn status(&self, unit: Unit, command: &[u8]) -> u8 {
+        if self.first.present(unit.target) {
+            self.first.status(unit, command)
         } else {
-            self.second.status(target, lun, command)
+            self.second.status(unit, command)
         }
     }
 
-    fn finish(&mut self, target: u8, lun: u8, command: &[u8], out: &[u8]) -> u8 {
-        if self.first.present(target) {
-            self.first.finish(target, lun, command, out)
+    fn finish(&mut self, unit: Unit, command: &[u8], out: &[u8]) -> u8 {
+        if self.first.present(unit.target) {
+            self.first.finish(unit, command, out)
         } else {
-            self.second.finish(target, lun, command, out)
+            self.second.finish(unit, command, out)
         }
     }
 }

@@ -1,4 +1,4 @@
-use scsi::{abort, abort_tag, identify, message_reject, no_operation, sdtr, simple_queue_tag};
+use scsi::{Word, identify, sdtr, simple_queue_tag};
 
 const IDENTIFIES: [(bool, u8, u8); 8] = [
     (false, 0, 0x80),
@@ -20,10 +20,10 @@ fn writes_identify(rt: HostRuntime) {
 
 #[test]
 fn writes_the_others(rt: HostRuntime) {
-    assert_eq!(rt; abort(), [0x06]);
-    assert_eq!(rt; message_reject(), [0x07]);
-    assert_eq!(rt; no_operation(), [0x08]);
-    assert_eq!(rt; abort_tag(), [0x0d]);
+    assert_eq!(rt; Word::Abort.bytes(), [0x06]);
+    assert_eq!(rt; Word::MessageReject.bytes(), [0x07]);
+    assert_eq!(rt; Word::NoOperation.bytes(), [0x08]);
+    assert_eq!(rt; Word::AbortTag.bytes(), [0x0d]);
     assert_eq!(rt; simple_queue_tag(0), [0x20, 0x00]);
     assert_eq!(rt; simple_queue_tag(255), [0x20, 0xff]);
     assert_eq!(rt; sdtr(25, 15), [0x01, 0x03, 0x01, 0x19, 0x0f]);

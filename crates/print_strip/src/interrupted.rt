@@ -1,179 +1,144 @@
 // Carries untagged commands, one at a time, over a bus that lets go of the line and takes it up again, by bus calls alone.
-use anyhow::{Context, anyhow};
+use anyhow::{Context, anyhow, bail};
 use bus::{Bus, Selection, Shown};
-use scsi::Greeting;
+use scsi::{Greeting, Message, read};
+use shelf::Unit;
+use std::ops::ControlFlow;
 use strip::Order;
 
 const TURNS: u32 = 1_000_000;
 
-const GREETING: Greeting = Greeting {
-    lun: 0,
-    leave: true,
-    tag: None,
-};
-
-// A command underway: whether its nexus is open, the current and the saved data pointer, its status, and whether it is complete.
-#[derive(Clone, Copy)]
-struct Underway {
-    open: bool,
+// A command underway: its bytes, its data either way, the current and the saved data pointer, and its status once it came.
+#[derive(Drop)]
+struct Underway<'a> {
+    command: [u8; 6],
+    out: &'a [u8],
+    into: &'a mut [u8],
     current: usize,
     saved: usize,
-    status: u8,
-    complete: bool,
+    status: Option<u8>,
 }
 
-// Carries one order to LUN 0 of a target, and says what came of it and each time the target lets go or comes back.
+// Carries one order to a unit, and says what came of it and each time the target lets go or comes back.
 pub(crate) fn ask<B: Bus>(
     rt: &HostRuntime,
     bus: &mut B,
-    target: u8,
+    unit: Unit,
     order: Order,
     out: &[u8],
     into: &mut [u8],
 ) -> anyhow::Result<()> {
-    let mut now = Underway {
-        open: false,
+    println!(rt; "target {} LUN {} {order}", unit.target, unit.lun)?;
+    select(rt, bus, unit)?;
+    let mut underway = Underway {
+        command: order.bytes(),
+        out,
+        into,
         current: 0,
         saved: 0,
-        status: 0,
-        complete: false,
+        status: None,
     };
-    println!(rt; "target {target} LUN 0 {order}")?;
     for _ in 0..TURNS {
-        now = turn(rt, bus, target, now, &order.bytes(), out, into)?;
-        if now.complete {
-            return told(rt, now);
+        if underway.turn(rt, bus)?.is_break() {
+            return underway.tell(rt);
         }
     }
     Err(anyhow!("the command did not end"))
 }
 
-fn told(rt: &HostRuntime, now: Underway) -> anyhow::Result<()> {
-    let moved = now.current;
-    let status = now.status;
-    println!(rt; "  {moved} bytes, status {status:02X}h")?;
-    if status != 0 {
-        return Err(anyhow!("a command did not end with status 00h"));
+// Selects the unit, again and again until the selection is won.
+fn select<B: Bus>(rt: &HostRuntime, bus: &mut B, unit: Unit) -> anyhow::Result<()> {
+    let greeting = Greeting {
+        lun: unit.lun,
+        leave: true,
+        tag: None,
+    };
+    for _ in 0..TURNS {
+        match bus.look() {
+            Shown::Free => match bus
+                .select(unit.target, greeting.bytes().as_slice())
+                .context("the bus refused the selection")?
+            {
+                Selection::Selected => return Ok(()),
+                Selection::Lost => println!(rt; "  selection lost")?,
+                Selection::Absent => bail!("the target is not there"),
+            },
+            Shown::Pause => bus.wait(),
+            _ => bail!("the bus showed what this driver does not answer"),
+        }
     }
-    Ok(())
+    Err(anyhow!("the command did not end"))
 }
 
-// Looks once, and does what the bus shows.
-fn turn<B: Bus>(
-    rt: &HostRuntime,
-    bus: &mut B,
-    target: u8,
-    now: Underway,
-    command: &[u8],
-    out: &[u8],
-    into: &mut [u8],
-) -> anyhow::Result<Underway> {
-    match bus.look() {
-        Shown::Free => open(rt, bus, target, now),
-        Shown::Reselect(from) => {
-            let place = now.saved;
-            println!(rt; "  reselected by target {from}, at place {place}")?;
-            granted(bus.accept().is_ok())?;
-            Ok(now)
+impl Underway<'_> {
+    // Looks once, does what the bus shows, and breaks at COMMAND COMPLETE.
+    fn turn<B: Bus>(&mut self, rt: &HostRuntime, bus: &mut B) -> anyhow::Result<ControlFlow<()>> {
+        match bus.look() {
+            Shown::Free | Shown::Pause => bus.wait(),
+            Shown::Reselect(from) => {
+                let saved = self.saved;
+                println!(rt; "  reselected by target {from}, at place {saved}")?;
+                bus.accept()?;
+            }
+            Shown::Command => bus.command(&self.command)?,
+            Shown::DataOut => {
+                let byte = self
+                    .out
+                    .get(self.current)
+                    .copied()
+                    .context("more data was asked for than there is")?;
+                bus.give(byte)?;
+                self.move_on()?;
+            }
+            Shown::DataIn(_) => {
+                let space = self
+                    .into
+                    .get_mut(self.current)
+                    .context("more data came than there is space for")?;
+                *space = bus.take()?;
+                self.move_on()?;
+            }
+            Shown::Status(_) => self.status = Some(bus.take()?),
+            Shown::MessageIn(_) => {
+                let message = bus.take()?;
+                return self.hear(rt, message);
+            }
+            _ => bail!("the bus showed what this driver does not answer"),
         }
-        Shown::Command => {
-            granted(bus.command(command).is_ok())?;
-            Ok(now)
-        }
-        Shown::DataOut => {
-            let byte = out
-                .get(now.current)
-                .copied()
-                .context("more data was asked for than there is")?;
-            granted(bus.give(byte).is_ok())?;
-            moved_on(now)
-        }
-        Shown::DataIn(byte) => {
-            *into
-                .get_mut(now.current)
-                .context("more data came than there is space for")? = byte;
-            granted(bus.take().is_ok())?;
-            moved_on(now)
-        }
-        Shown::Status(status) => {
-            granted(bus.take().is_ok())?;
-            Ok(Underway { status, ..now })
-        }
-        Shown::MessageIn(message) => {
-            granted(bus.take().is_ok())?;
-            hear(rt, now, message)
-        }
-        Shown::Pause => {
-            bus.wait();
-            Ok(now)
-        }
-        _ => Err(anyhow!("the bus showed what this driver does not answer")),
+        Ok(ControlFlow::Continue(()))
     }
-}
 
-fn granted(ok: bool) -> anyhow::Result<()> {
-    if ok {
+    fn move_on(&mut self) -> anyhow::Result<()> {
+        self.current = self.current.checked_add(1).context("too much data")?;
         Ok(())
-    } else {
-        Err(anyhow!("the bus refused a call"))
     }
-}
 
-// Selects the target, or waits for it to come back.
-fn open<B: Bus>(
-    rt: &HostRuntime,
-    bus: &mut B,
-    target: u8,
-    now: Underway,
-) -> anyhow::Result<Underway> {
-    if now.open {
-        bus.wait();
-        return Ok(now);
+    // What a message of one byte from the target does to the pointers; of a reselection's greeting there is nothing to do.
+    fn hear(&mut self, rt: &HostRuntime, message: u8) -> anyhow::Result<ControlFlow<()>> {
+        let Underway { current, saved, .. } = *self;
+        match read(&[message]) {
+            Some((Message::CommandComplete, _)) => return Ok(ControlFlow::Break(())),
+            Some((Message::SaveDataPointer, _)) => self.saved = current,
+            Some((Message::RestorePointers, _)) => {
+                println!(rt; "  back from place {current} to {saved}")?;
+                self.current = saved;
+            }
+            Some((Message::Disconnect, _)) => {
+                println!(rt; "  disconnected at place {current}, saved {saved}")?;
+                self.current = saved;
+            }
+            Some((Message::Identify { leave: false, .. }, _)) => {}
+            _ => bail!("the target sent a message that this driver does not answer"),
+        }
+        Ok(ControlFlow::Continue(()))
     }
-    match bus.select(target, GREETING.bytes().as_slice()) {
-        Ok(Selection::Selected) => Ok(Underway { open: true, ..now }),
-        Ok(Selection::Lost) => {
-            println!(rt; "  selection lost")?;
-            Ok(now)
-        }
-        Ok(Selection::Absent) => Err(anyhow!("the target is not there")),
-        Err(_) => Err(anyhow!("the bus refused the selection")),
-    }
-}
 
-fn moved_on(now: Underway) -> anyhow::Result<Underway> {
-    let current = now.current.checked_add(1).context("too much data")?;
-    Ok(Underway { current, ..now })
-}
-
-// What a message of one byte from the target does to the pointers; of a reselection's greeting there is nothing to do.
-fn hear(rt: &HostRuntime, now: Underway, message: u8) -> anyhow::Result<Underway> {
-    let current = now.current;
-    let saved = now.saved;
-    match message {
-        0x00 => Ok(Underway {
-            complete: true,
-            ..now
-        }),
-        0x02 => Ok(Underway {
-            saved: current,
-            ..now
-        }),
-        0x03 => {
-            println!(rt; "  back from place {current} to {saved}")?;
-            Ok(Underway {
-                current: saved,
-                ..now
-            })
+    fn tell(&self, rt: &HostRuntime) -> anyhow::Result<()> {
+        let status = self.status.context("the command ended without a status")?;
+        println!(rt; "  {} bytes, status {status:02X}h", self.current)?;
+        if status != 0 {
+            bail!("a command did not end with status 00h");
         }
-        0x04 => {
-            println!(rt; "  disconnected at place {current}, saved {saved}")?;
-            Ok(Underway {
-                current: saved,
-                ..now
-            })
-        }
-        0x80..=0x87 => Ok(now),
-        _ => Err(anyhow!("the target sent a message that this driver does not answer")),
+        Ok(())
     }
 }

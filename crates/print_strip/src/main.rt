@@ -2,57 +2,88 @@
 // first over a strict bus, then over a whim bus, on which commands are interrupted, let go and resumed.
 #![tactic(auto)]
 
+ghost use Rattle.std.specs.Prelude.{◌<◌, ◌^◌};
+
 mod interrupted;
 
-use anyhow::anyhow;
-use bus::Bus;
+use anyhow::{bail, ensure};
 use carrier::{carry_in, carry_out};
 use devices::{Disk, Pair, Recorder};
+use shelf::Unit;
 use strict_bus::StrictBus;
 use strip::{Order, adler32, draw};
 use whim_bus::WhimBus;
 
-const DISK: u8 = 0;
+const DISK: Unit = Unit { target: 0, lun: 0 };
 
-const RECORDER: u8 = 3;
+const RECORDER: Unit = Unit { target: 3, lun: 0 };
 
 const BLOCK: usize = 512;
 
-const BLOCKS: u32 = 8;
+const PRINT: usize = 2048;
 
 const STRIP: usize = 4096;
-
-const PRINT: usize = 2048;
 
 const SHORT: usize = 1024;
 
 fn main(rt: HostRuntime) -> anyhow::Result<()> {
-    run(&rt)
+    print_over::<_, STRIP>(&rt, "strip", &mut StrictBus::new(units(&rt)?))?;
+    print_over::<_, SHORT>(
+        &rt,
+        "strip over the whim bus",
+        &mut WhimBus::new(units(&rt)?, whims()),
+    )
 }
 
-fn run(rt: &HostRuntime) -> anyhow::Result<()> {
-    straight(rt)?;
-    whimsical(rt)
+type Units = Pair<Disk, Recorder>;
+
+fn units(rt: &HostRuntime) -> anyhow::Result<Units> {
+    Ok(Pair {
+        first: Disk::new(rt.alloc(), DISK.target, 64)?,
+        second: Recorder::new(rt.alloc(), RECORDER.target, 8192)?,
+    })
 }
 
-// The strip over a strict bus.
-fn straight(rt: &HostRuntime) -> anyhow::Result<()> {
-    let mut bus = StrictBus::new(Pair {
-        first: Disk::new(rt.alloc(), DISK, 64)?,
-        second: Recorder::new(rt.alloc(), RECORDER, 8192)?,
-    });
-    let mut drawn = [0; STRIP];
+// A bus with the units behind it, and how a whole order is carried over it.
+trait Cable {
+    // Carries one order, and says what came of it.
+    fn ask(
+        &mut self,
+        rt: &HostRuntime,
+        unit: Unit,
+        order: Order,
+        out: &[u8],
+        into: &mut [u8],
+    ) -> anyhow::Result<()>;
+
+    fn units(&self) -> &Units;
+}
+
+// Prints a strip of this size.
+fn print_over<C: Cable, const SIZE: usize>(
+    rt: &HostRuntime,
+    name: &str,
+    cable: &mut C,
+) -> anyhow::Result<()>
+    requires { SIZE < 2 ^ 63 }
+{
+    let mut drawn = [0; SIZE];
     draw(&mut drawn);
-    println!(rt; "strip: {STRIP} bytes, Adler-32 {:08x}", adler32(&drawn))?;
-    let mut copy = [0; STRIP];
-    store(rt, &mut bus, &drawn)?;
-    fetch(rt, &mut bus, &mut copy)?;
-    if copy != drawn {
-        return Err(anyhow!("the strip came back changed"));
+    println!(rt; "{name}: {SIZE} bytes, Adler-32 {:08x}", adler32(&drawn))?;
+    for (block, bytes) in (0..).zip(drawn.chunks_exact(BLOCK)) {
+        cable.ask(rt, DISK, Order::Write(block), bytes, &mut [])?;
     }
+    let mut copy = [0; SIZE];
+    for (block, bytes) in (0..).zip(copy.chunks_exact_mut(BLOCK)) {
+        cable.ask(rt, DISK, Order::Read(block), &[], bytes)?;
+    }
+    ensure!(copy == drawn, "the strip came back changed");
     println!(rt; "compared: the strip came back as it was written")?;
-    print(rt, &mut bus, &copy)?;
-    let film = bus.shelf().second.film();
+    for bytes in copy.chunks(PRINT) {
+        let count = u16::try_from(bytes.len())?;
+        cable.ask(rt, RECORDER, Order::Print(count), bytes, &mut [])?;
+    }
+    let film = cable.units().second.film();
     println!(rt;
         "film: {} bytes, Adler-32 {:08x}",
         film.len(),
@@ -61,40 +92,54 @@ fn straight(rt: &HostRuntime) -> anyhow::Result<()> {
     Ok(())
 }
 
-// A short strip over a whim bus.
-fn whimsical(rt: &HostRuntime) -> anyhow::Result<()> {
-    let mut bus = WhimBus::new(
-        Pair {
-            first: Disk::new(rt.alloc(), DISK, 64)?,
-            second: Recorder::new(rt.alloc(), RECORDER, 8192)?,
-        },
-        whims(),
-    );
-    let mut drawn = [0; SHORT];
-    draw(&mut drawn);
-    println!(rt;
-        "strip over the whim bus: {SHORT} bytes, Adler-32 {:08x}",
-        adler32(&drawn)
-    )?;
-    let mut copy = [0; SHORT];
-    for (block, bytes) in (0..2u32).zip(drawn.chunks_exact(BLOCK)) {
-        interrupted::ask(rt, &mut bus, DISK, Order::Write(block), bytes, &mut [])?;
+impl Cable for StrictBus<Units> {
+    fn ask(
+        &mut self,
+        rt: &HostRuntime,
+        unit: Unit,
+        order: Order,
+        out: &[u8],
+        into: &mut [u8],
+    ) -> anyhow::Result<()> {
+        let command = order.bytes();
+        let carried = match order {
+            Order::Read(_) => carry_in(self, unit, &command, into)?,
+            Order::Write(_) | Order::Print(_) => carry_out(self, unit, &command, out)?,
+        };
+        let Unit { target, lun } = unit;
+        let status = carried.status;
+        print!(rt; "target {target} LUN {lun}")?;
+        for byte in command {
+            print!(rt; " {byte:02X}")?;
+        }
+        println!(rt; " {order}: {} bytes, status {status:02X}h", carried.moved)?;
+        if status != 0 {
+            println!(rt; "stopped: {order} at target {target} ended with status {status:02X}h")?;
+            bail!("a command did not end with status 00h");
+        }
+        Ok(())
     }
-    for (block, bytes) in (0..2u32).zip(copy.chunks_exact_mut(BLOCK)) {
-        interrupted::ask(rt, &mut bus, DISK, Order::Read(block), &[], bytes)?;
+
+    fn units(&self) -> &Units {
+        self.shelf()
     }
-    if copy != drawn {
-        return Err(anyhow!("the strip came back changed"));
+}
+
+impl Cable for WhimBus<Units> {
+    fn ask(
+        &mut self,
+        rt: &HostRuntime,
+        unit: Unit,
+        order: Order,
+        out: &[u8],
+        into: &mut [u8],
+    ) -> anyhow::Result<()> {
+        interrupted::ask(rt, self, unit, order, out, into)
     }
-    println!(rt; "compared: the strip came back as it was written")?;
-    interrupted::ask(rt, &mut bus, RECORDER, Order::Print(1024), &copy, &mut [])?;
-    let film = bus.shelf().second.film();
-    println!(rt;
-        "film: {} bytes, Adler-32 {:08x}",
-        film.len(),
-        adler32(film)
-    )?;
-    Ok(())
+
+    fn units(&self) -> &Units {
+        self.shelf()
+    }
 }
 
 // Whim bytes that let most data through, and now and then save, go back, let go and come back.
@@ -110,52 +155,4 @@ fn whims() -> [u8; 256] {
     whims[200] = 1;
     whims[240] = 2;
     whims
-}
-
-fn store<B: Bus>(rt: &HostRuntime, bus: &mut B, strip: &[u8]) -> anyhow::Result<()> {
-    for (block, bytes) in (0..BLOCKS).zip(strip.chunks_exact(BLOCK)) {
-        ask(rt, bus, DISK, Order::Write(block), bytes, &mut [])?;
-    }
-    Ok(())
-}
-
-fn fetch<B: Bus>(rt: &HostRuntime, bus: &mut B, copy: &mut [u8]) -> anyhow::Result<()> {
-    for (block, bytes) in (0..BLOCKS).zip(copy.chunks_exact_mut(BLOCK)) {
-        ask(rt, bus, DISK, Order::Read(block), &[], bytes)?;
-    }
-    Ok(())
-}
-
-fn print<B: Bus>(rt: &HostRuntime, bus: &mut B, strip: &[u8]) -> anyhow::Result<()> {
-    for bytes in strip.chunks_exact(PRINT) {
-        ask(rt, bus, RECORDER, Order::Print(2048), bytes, &mut [])?;
-    }
-    Ok(())
-}
-
-// Carries one order to LUN 0 of a target, and says what came of it.
-fn ask<B: Bus>(
-    rt: &HostRuntime,
-    bus: &mut B,
-    target: u8,
-    order: Order,
-    out: &[u8],
-    into: &mut [u8],
-) -> anyhow::Result<()> {
-    let command = order.bytes();
-    let carried = match order {
-        Order::Read(_) => carry_in(bus, target, 0, &command, into)?,
-        Order::Write(_) | Order::Print(_) => carry_out(bus, target, 0, &command, out)?,
-    };
-    let moved = carried.moved;
-    let status = carried.status;
-    let [a, b, c, d, e, f] = command;
-    println!(rt;
-        "target {target} LUN 0 {a:02X} {b:02X} {c:02X} {d:02X} {e:02X} {f:02X} {order}: {moved} bytes, status {status:02X}h"
-    )?;
-    if status != 0 {
-        println!(rt; "stopped: {order} at target {target} ended with status {status:02X}h")?;
-        return Err(anyhow!("a command did not end with status 00h"));
-    }
-    Ok(())
 }

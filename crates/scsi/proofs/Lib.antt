@@ -1,3 +1,2 @@
-mod Cuts
 pub mod Roundtrip
 pub mod Worked

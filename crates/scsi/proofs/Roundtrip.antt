@@ -1,12 +1,8 @@
--- IDENTIFY as it is written is read and understood as it was meant. Assumes nothing.
-use Rattle.std.proofs.Common.{◌≡◌, ℕ, ◌%◌, Bool, true, false, [], ◌∷◌, Some, Option, arith}
+-- IDENTIFY as it is written is understood as it was meant. Assumes nothing.
+use Rattle.std.proofs.Common.{◌≡◌, ℕ, ◌%◌, Bool, true, false, Some, Option, arith}
 use Rattle.std.proofs.lemmas.Bool.Decides.{nat_tests}
-use Rattle.scsi.specs.Messages.{identify, ReadsBack, identify_byte}
+use Rattle.scsi.specs.Messages.{identify_byte}
 use Rattle.scsi.specs.Greetings.{greeting}
-
-pub identify_back : (leave : Bool) (lun : ℕ) → ReadsBack (identify_byte leave lun ∷ []) (identify leave (lun % 8))
-identify_back true lun rest = grind (arith, nat_tests)
-identify_back false lun rest = grind (arith, nat_tests)
 
 pub understood : (leave : Bool) (lun : ℕ) (tag : Option ℕ) → greeting (identify_byte leave lun) tag ≡ Some (record { lun = lun % 8; leave = leave; tag = tag })
 understood true lun tag = grind (arith, nat_tests)

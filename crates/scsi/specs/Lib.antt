@@ -5,3 +5,4 @@ pub mod Greetings
 pub mod Commands
 pub mod Cases
 pub mod Kept
+pub mod Words

@@ -6,7 +6,7 @@ ghost use Rattle.scsi.specs.Kept.{cdb_bytes, kept};
 use crate::command::is_well_sized;
 
 /// A command descriptor block of one of the lengths that a group has.
-#[derive(Clone, Copy)]
+#[derive(Clone, Copy, PartialEq, Eq, Debug)]
 pub enum Cdb {
     Six([u8; 6]),
     Ten([u8; 10]),

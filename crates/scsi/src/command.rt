@@ -17,11 +17,8 @@ pub fn command_length(first: u8) -> Option<u8>
 pub fn is_well_sized(command: &[u8]) -> bool
     ensures { result ≡ well_sized command.now }
 {
-    let [first, ..] = command else {
-        return false;
-    };
-    match command_length(*first) {
-        Some(length) => command.len() == usize::from(length),
-        None => false,
-    }
+    command
+        .first()
+        .and_then(|&first| command_length(first))
+        .is_some_and(|length| command.len() == usize::from(length))
 }

@@ -13,7 +13,7 @@ pub struct Greeting {
 }
 
 /// The bytes of a greeting: IDENTIFY alone, or with the tag message behind it.
-#[derive(Clone, Copy)]
+#[derive(Clone, Copy, PartialEq, Eq, Debug)]
 pub enum GreetingBytes {
     Untagged([u8; 1]),
     Tagged([u8; 3]),

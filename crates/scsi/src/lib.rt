@@ -11,4 +11,4 @@ pub use cdb::Cdb;
 pub use command::{command_length, is_well_sized};
 pub use greeting::{Greeting, GreetingBytes};
 pub use message::{Message, read};
-pub use write::{abort, abort_tag, identify, message_reject, no_operation, sdtr, simple_queue_tag};
+pub use write::{Word, identify, sdtr, simple_queue_tag};

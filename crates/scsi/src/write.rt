@@ -1,6 +1,7 @@
 ghost use Rattle.std.specs.Prelude.{◌≡◌, ℕ, ◌%◌, [], ◌∷◌, Some, Option};
 ghost use Rattle.scsi.specs.Messages.{Message, ReadsBack, identify_byte};
 ghost use Rattle.scsi.specs.Greetings.{greeting};
+ghost use Rattle.scsi.specs.Words.{word_byte, word_meant};
 
 /// IDENTIFY for the LUN in the low three bits of `lun`; `leave` permits the target to disconnect.
 pub fn identify(leave: bool, lun: u8) -> [u8; 1]
@@ -28,36 +29,32 @@ pub fn simple_queue_tag(tag: u8) -> [u8; 2]
     [0x20, tag]
 }
 
-/// ABORT: the target is to end the nexus.
-pub fn abort() -> [u8; 1]
-    ensures bytes { result ≡ 0x06 ∷ [] }
-    ensures reads_back { ReadsBack result Message.abort }
-{
-    [0x06]
+/// A message of one byte that the initiator speaks.
+#[derive(Clone, Copy, PartialEq, Eq, Debug)]
+pub enum Word {
+    /// The target is to end the nexus.
+    Abort,
+    /// The last message is not obeyed.
+    MessageReject,
+    /// There is nothing to say.
+    NoOperation,
+    /// The target is to end the tagged nexus.
+    AbortTag,
 }
 
-/// MESSAGE REJECT: the last message is not obeyed.
-pub fn message_reject() -> [u8; 1]
-    ensures bytes { result ≡ 0x07 ∷ [] }
-    ensures reads_back { ReadsBack result Message.reject }
-{
-    [0x07]
-}
-
-/// NO OPERATION: there is nothing to say.
-pub fn no_operation() -> [u8; 1]
-    ensures bytes { result ≡ 0x08 ∷ [] }
-    ensures reads_back { ReadsBack result Message.no_operation }
-{
-    [0x08]
-}
-
-/// ABORT TAG: the target is to end the tagged nexus.
-pub fn abort_tag() -> [u8; 1]
-    ensures bytes { result ≡ 0x0D ∷ [] }
-    ensures reads_back { ReadsBack result Message.abort_tag }
-{
-    [0x0d]
+impl Word {
+    /// The message, as it is spoken.
+    pub fn bytes(self) -> [u8; 1]
+        ensures bytes { result ≡ word_byte self ∷ [] }
+        ensures reads_back { ReadsBack result (word_meant self) }
+    {
+        match self {
+            Word::Abort => [0x06],
+            Word::MessageReject => [0x07],
+            Word::NoOperation => [0x08],
+            Word::AbortTag => [0x0d],
+        }
+    }
 }
 
 /// SDTR: a request for synchronous data transfer, with this period factor and offset.

@@ -1,9 +1,5 @@
 -- The laws that hold by the form of a shelf's meaning, for every shelf. Assumes nothing.
-use Prim.Native.Nat.{ℕ}
-use mathlib.Core.Path.{◌≡◌, refl, ap₂}
-use mathlib.Core.Bool.{Bool, false, cond, ◌&&◌}
-use mathlib.Core.List.{List}
-use lib.Dec.{eqb}
+use Rattle.std.proofs.Common.{◌≡◌, ℕ, Bool, false, cond, ◌&&◌, List, eqb, refl, ap₂}
 use Rattle.shelf.specs.Model.{Kind, Model}
 use Rattle.shelf.specs.Laws.{Owed, Laws}
 

@@ -1,7 +1,6 @@
 -- A strict bus shows nothing between, and never lets go. Assumes nothing.
 use Rattle.std.proofs.Common.{◌≡◌, ℕ, ◌<◌, ◌≤◌, Bool, true, false, cond, not, eqb, ltb, List, [], ◌∷◌, Some, None, Option, sym, refl, ap, ◌∙◌, subst, arith}
-use mathlib.Core.Bool.{false≢true}
-use Rattle.std.proofs.lemmas.Bool.{ltb-true, ltb-false, eqb-false, or_left}
+use Rattle.std.proofs.lemmas.Bool.{ltb-true, ltb-false, eqb-false}
 use Rattle.scsi.specs.declared.greeting.Greeting.{Greeting}
 use Rattle.scsi.specs.Greetings.{greeting_of}
 use Rattle.shelf.specs.declared.Way.{Way}
@@ -14,7 +13,7 @@ use Rattle.bus.specs.declared.Shown.TheVariants.{DataOut, DataIn, Command, Statu
 use Rattle.bus.specs.Kinds.{byte_shown, shows_free}
 use Rattle.bus.specs.State.{Name, Nexus, held, Cable, same_name, BusState, change, sent, given, moved, ended, fresh_nexus}
 use Rattle.bus.specs.Calls.{Call, select, accept, command, give, take, speak, wait, reset, Reply, refused, selected, lost, absent, took_shown}
-use Rattle.bus.specs.Refusals.{due, name_of, greeting_refused}
+use Rattle.bus.specs.Refusals.{due, name_of}
 use Rattle.bus.specs.Effects.{opens, ends_line, aborts, finishes}
 use Rattle.bus.specs.Showing.{data_shown}
 use Rattle.bus.proofs.Names.{same_name_is}
@@ -96,24 +95,21 @@ meets m l n x p = by x.command refl p
 to : (m : Model) → Laws m → (n : Name) (x : Nexus) (f : Nexus → Nexus) → Placed m n (f x) (f x).command → Straight (strict (change n f (holding m n x)))
 to m l n x f p = subst (λ (c : Cable). Straight (strict c)) (sym (changed m n x f)) (held_strict m l n (f x) p)
 
-refusing : {A : Type 0} → true ≡ false → A
-refusing e = absurd (false≢true (sym e))
-
 on_command : (m : Model) → Laws m → (n : Name) (x : Nexus) (d : List ℕ) (s : Shown) → Meets m n x s → due (showing m n x s) (command d) ≡ false
     → Straight (strict (change n (sent d) (holding m n x)))
 on_command m l n x d s (fresh p) h = to m l n x (sent d) (omega arith)
-on_command m l n x d s (going e c u (asked k)) h = refusing h
-on_command m l n x d s (going e c u (offered v k)) h = refusing h
-on_command m l n x d s (going e c u (told v)) h = refusing h
-on_command m l n x d s over h = refusing h
+on_command m l n x d s (going e c u (asked k)) h = cc
+on_command m l n x d s (going e c u (offered v k)) h = cc
+on_command m l n x d s (going e c u (told v)) h = cc
+on_command m l n x d s over h = cc
 
 on_give : (m : Model) → Laws m → (n : Name) (x : Nexus) (v : ℕ) (s : Shown) → Meets m n x s → due (showing m n x s) (give v) ≡ false
     → Straight (strict (change n (given v) (holding m n x)))
-on_give m l n x v s (fresh p) h = refusing h
+on_give m l n x v s (fresh p) h = cc
 on_give m l n x v s (going d c u (asked k)) h = to m l n x (given v) (subst (Placed m n (given v x)) (sym c) k)
-on_give m l n x v s (going d c u (offered w k)) h = refusing h
-on_give m l n x v s (going d c u (told w)) h = refusing h
-on_give m l n x v s over h = refusing h
+on_give m l n x v s (going d c u (offered w k)) h = cc
+on_give m l n x v s (going d c u (told w)) h = cc
+on_give m l n x v s over h = cc
 
 after_finish : (m : Model) → Laws m → (n : Name) (o : Option (List ℕ)) (out : List ℕ) → Laws (finishes n o out m)
 after_finish m l n None out = l
@@ -121,8 +117,8 @@ after_finish m l n (Some d) out = lawful (finished m n.target n.lun d out) l.owe
 
 on_take : (m : Model) → Laws m → (n : Name) (x : Nexus) → Placed m n x x.command → (s : Shown) → Meets m n x s → due (showing m n x s) take ≡ false
     → Straight (strict (does (showing m n x s) take))
-on_take m l n x p s (fresh q) h = refusing h
-on_take m l n x p s (going d c u (asked k)) h = refusing h
+on_take m l n x p s (fresh q) h = cc
+on_take m l n x p s (going d c u (asked k)) h = cc
 on_take m l n x p s (going d c u (offered v k)) h = to m l n x moved (subst (Placed m n (moved x)) (sym c) k)
 on_take m l n x p s (going d c u (told v)) h = to m l n x (ended v) (subst (Placed m n (ended v x)) (sym c) (subst (Placed m n x) c p))
 on_take m l n x p s over h =
@@ -137,7 +133,7 @@ on_select m n x s over = refl
 
 on_hold : (m : Model) (l : Laws m) (n : Name) (x : Nexus) → Placed m n x x.command → (s : Shown) → Meets m n x s → (c : Call) → due (showing m n x s) c ≡ false
     → Straight (strict (does (showing m n x s) c))
-on_hold m l n x p s q (select t g) h = refusing (sym (or_left (not (shows_free s)) (greeting_refused (holding m n x) t (greeting_of g)) (on_select m n x s q)) ∙ h)
+on_hold m l n x p s q (select t g) h = let e = on_select m n x s q in let z = rw e at h in cc
 on_hold m l n x p s q accept h = held_strict m l n x p
 on_hold m l n x p s q (command d) h = on_command m l n x d s q h
 on_hold m l n x p s q (give v) h = on_give m l n x v s q h
@@ -182,34 +178,34 @@ not_lost : (b : BusState) (c : Call) → granted b c ≡ lost → ⊥
 not_lost b (select t g) e = go (is_present b.cable.shelf t) e
   where
     go : (p : Bool) → cond p selected absent ≡ lost → ⊥
-    go true e = let z : ◌≡◌ {A = ℕ} 0 1 = cc in omega arith
-    go false e = let z : ◌≡◌ {A = ℕ} 0 1 = cc in omega arith
-not_lost b accept e = let z : ◌≡◌ {A = ℕ} 0 1 = cc in omega arith
-not_lost b (command d) e = let z : ◌≡◌ {A = ℕ} 0 1 = cc in omega arith
-not_lost b (give v) e = let z : ◌≡◌ {A = ℕ} 0 1 = cc in omega arith
+    go true e = cc
+    go false e = cc
+not_lost b accept e = cc
+not_lost b (command d) e = cc
+not_lost b (give v) e = cc
 not_lost b take e = go (byte_shown b.shown) e
   where
     go : (o : Option ℕ) → took_shown o ≡ lost → ⊥
-    go None e = let z : ◌≡◌ {A = ℕ} 0 1 = cc in omega arith
-    go (Some v) e = let z : ◌≡◌ {A = ℕ} 0 1 = cc in omega arith
-not_lost b (speak m) e = let z : ◌≡◌ {A = ℕ} 0 1 = cc in omega arith
-not_lost b wait e = let z : ◌≡◌ {A = ℕ} 0 1 = cc in omega arith
-not_lost b reset e = let z : ◌≡◌ {A = ℕ} 0 1 = cc in omega arith
+    go None e = cc
+    go (Some v) e = cc
+not_lost b (speak m) e = cc
+not_lost b wait e = cc
+not_lost b reset e = cc
 
 never_lost : (b : BusState) (c : Call) (r : Reply) → r ≡ cond (due b c) (refused 11) (granted b c) → r ≡ lost → ⊥
 never_lost b c r e f = go (due b c) (sym e ∙ f)
   where
     go : (t : Bool) → cond t (refused 11) (granted b c) ≡ lost → ⊥
-    go true e = let z : ◌≡◌ {A = ℕ} 0 1 = cc in omega arith
+    go true e = cc
     go false e = not_lost b c e
 
 no_leave : (b : BusState) → Straight b → (n : Name) (x : Nexus) → b.cable.nexuses n ≡ Some x → b.cable.line ≡ held n
-no_leave b (rests m l) n x e = let z : ◌≡◌ {A = ℕ} 0 1 = cc in absurd (omega arith)
+no_leave b (rests m l) n x e = cc
 no_leave b (holds m l k y p) n x e = go (same_name n k) refl e
   where
     go : (t : Bool) → same_name n k ≡ t → cond t (Some y) None ≡ Some x → held k ≡ held n
     go true f e = ap held (sym (same_name_is n k f))
-    go false f e = let z : ◌≡◌ {A = ℕ} 0 1 = cc in absurd (omega arith)
+    go false f e = cc
 
 pub straight_through : (m : Model) → Laws m → StraightThrough (strict (resting m))
 straight_through m l =

@@ -1,6 +1,6 @@
 -- A strict bus keeps the rules of a bus. Assumes nothing.
 use Rattle.std.specs.Prelude.{◌≡◌, ℕ, Bool, true, false, cond, not, List, is_some, Some, None, Option, ◌==◌, ◌≢◌, nat_lt, refl}
-use Rattle.std.proofs.Common.{sym, ap, subst, ◌∙◌, arith}
+use Rattle.std.proofs.Common.{sym, ap, subst, ◌∙◌}
 use Rattle.std.proofs.lemmas.Bool.{ltb-true, eqb-true, false≢true}
 use Rattle.scsi.specs.Greetings.{greeting_of}
 use Rattle.shelf.specs.declared.Way.{Way}
@@ -26,8 +26,7 @@ no_reader : (m : Model) (n : Name) (x : Nexus) (d : List ℕ) → x.command ≡ 
     → NoReader m (put n (Some x) (λ k. None)) n.target n.lun
 no_reader m n x d c out k y e there sent in_way =
     let same : x ≡ y = put_only n x (record { target = n.target; lun = n.lun; tag = k }) y there in
-    let z : ◌≡◌ {A = ℕ} 0 1 = cc in
-    omega arith
+    cc
 
 underway_shows : (m : Model) (n : Name) (x : Nexus) (d : List ℕ) → x.command ≡ Some d → x.status ≡ None
     → MayShow m (put n (Some x) (λ k. None)) n x (underway m n d x.place)

@@ -1,7 +1,5 @@
 pub mod Text
-pub mod Fields
 pub mod Means
-pub mod FieldsLemmas
+pub mod Stages
 pub mod Holding
-pub mod Calling
 pub mod Keeping

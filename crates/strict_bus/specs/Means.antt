@@ -1,13 +1,13 @@
 -- What the fields of a strict bus mean. Assumes nothing.
-use Rattle.std.specs.Prelude.{ℕ, Bool, true, List, take, Some, None, Option}
+use Rattle.std.specs.Prelude.{ℕ, Bool, true, List, Some, None, Option}
 use Rattle.scsi.specs.Kept.{cdb_bytes}
 use Rattle.shelf.specs.Model.{Model}
 use Rattle.bus.specs.declared.Shown.{Shown}
-use Rattle.bus.specs.declared.Shown.TheVariants.{Command, MessageIn, Free as FreeShown}
+use Rattle.bus.specs.declared.Shown.TheVariants.{Command, MessageIn, Free}
 use Rattle.bus.specs.State.{Name, Nexus, Cable, BusState}
 use Rattle.bus.specs.Refusals.{name_of}
-use Rattle.strict_bus.specs.declared.state.Stage.{Stage}
-use Rattle.strict_bus.specs.declared.state.Stage.TheVariants.{Free, Fresh, Commanded, Ended}
+use Rattle.bus.specs.declared.Stage.{Stage}
+use Rattle.bus.specs.declared.Stage.TheVariants.{Empty, Fresh, Commanded, Ended}
 use Rattle.strict_bus.specs.declared.state.StrictBus.{StrictBus}
 use Rattle.bus.specs.Single.{resting, holding}
 use Rattle.strict_bus.specs.Text.{underway}
@@ -24,13 +24,13 @@ nexus_at leave place collected command status = record {
 }
 
 abbrev pub cable_at : Model → Name → Bool → ℕ → List ℕ → Stage → Cable
-cable_at m n leave p out Free = resting m
+cable_at m n leave p out Empty = resting m
 cable_at m n leave p out Fresh = holding m n (nexus_at leave p out None None)
 cable_at m n leave p out (Commanded d) = holding m n (nexus_at leave p out (Some (cdb_bytes d)) None)
 cable_at m n leave p out (Ended d st) = holding m n (nexus_at leave p out (Some (cdb_bytes d)) (Some st))
 
 abbrev pub shown_at : Model → Name → ℕ → Stage → Shown
-shown_at m n p Free = FreeShown
+shown_at m n p Empty = Free
 shown_at m n p Fresh = Command
 shown_at m n p (Commanded d) = underway m n (cdb_bytes d) p
 shown_at m n p (Ended d st) = MessageIn 0
@@ -42,4 +42,4 @@ abbrev pub name_in : {X : Type 0} → StrictBus X → Name
 name_in s = name_of s.target s.greeting
 
 abbrev pub meaning : {X : Type 0} → (X → Model) → StrictBus X → BusState
-meaning model s = at (model s.shelf) (name_in s) s.greeting.leave s.place (take s.collected s.out) s.stage
+meaning model s = at (model s.shelf) (name_in s) s.greeting.leave s.place s.out.items s.stage

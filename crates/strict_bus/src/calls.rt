@@ -2,17 +2,18 @@
 ghost use Rattle.std.specs.Prelude.{◌≡◌, ◌<◌, true, nat_lt, refl};
 ghost use Rattle.scsi.specs.Kept.{cdb_bytes};
 ghost use Rattle.bus.specs.Kinds.{kind_of};
-ghost use Rattle.bus.specs.Calls.{Call, took_or_refused};
 ghost use Rattle.bus.specs.Single.{resting};
 ghost use Rattle.strict_bus.specs.Text.{Strictly, StraightThrough, strict, underway};
 ghost use Rattle.strict_bus.specs.Means.{meaning, name_in};
-ghost use Rattle.strict_bus.specs.FieldsLemmas.{stage_lawful, stage_shows, stage_settled};
+ghost use Rattle.std.proofs.Common.{rules};
+ghost use Rattle.strict_bus.specs.Stages.{stage_shows, stage_settled};
 ghost use Rattle.strict_bus.specs.Keeping;
 
-use crate::state::{Stage, StrictBus};
-use bus::{Bus, Refusal, Selection, Shown, is_abort};
+use crate::state::StrictBus;
+use arrayvec::ArrayVec;
+use bus::{Bus, Refusal, Selection, Shown, Stage, is_abort};
 use scsi::{Cdb, Greeting};
-use shelf::{Shelf, Way};
+use shelf::{Shelf, Unit, Way};
 
 impl<S: Shelf> StrictBus<S> {
     /// A strict bus over this shelf, with a free line and no nexus.
@@ -22,7 +23,7 @@ impl<S: Shelf> StrictBus<S> {
     {
         StrictBus {
             shelf,
-            stage: Stage::Free,
+            stage: Stage::Empty,
             target: 0,
             greeting: Greeting {
                 lun: 0,
@@ -30,8 +31,7 @@ impl<S: Shelf> StrictBus<S> {
                 tag: None,
             },
             place: 0,
-            out: [0; 2048],
-            collected: 0,
+            out: ArrayVec::new(),
         }
     }
 
@@ -42,43 +42,36 @@ impl<S: Shelf> StrictBus<S> {
         &self.shelf
     }
 
+    // The unit of the nexus.
+    fn unit(&self) -> Unit
+        ensures target { result.target ≡ self.now.target }
+        ensures lun { result.lun ≡ self.now.greeting.lun }
+    {
+        Unit {
+            target: self.target,
+            lun: self.greeting.lun,
+        }
+    }
+
     // What is shown while this command is underway.
     fn underway(&self, command: &Cdb) -> Shown
         ensures room { nat_lt (kind_of result) 2 ≡ true → self.now.place < 2048 }
         ensures value { result ≡ underway (S.Shelf.model self.now.shelf) (name_in self.now) (cdb_bytes command.now) self.now.place }
     {
-        let lun = self.greeting.lun;
+        let unit = self.unit();
         let bytes = command.as_slice();
-        let (way, count) = self.shelf.way(self.target, lun, bytes);
+        let (way, count) = self.shelf.way(unit, bytes);
         if self.place < count {
             return match way {
                 Way::Still => Shown::Pause,
-                Way::In => Shown::DataIn(self.shelf.byte(self.target, lun, bytes, self.place)),
+                Way::In => Shown::DataIn(self.shelf.byte(unit, bytes, self.place)),
                 Way::Out => Shown::DataOut,
             };
         }
         if self.place == count {
-            Shown::Status(self.shelf.status(self.target, lun, bytes))
+            Shown::Status(self.shelf.status(unit, bytes))
         } else {
             Shown::Pause
-        }
-    }
-
-    // Takes the byte that is shown while this command is underway.
-    fn take_underway(&mut self, command: Cdb) -> Result<u8, Refusal>
-        requires { self.old.stage ≡ Stage.Commanded command }
-        ensures { Strictly (meaning S.Shelf.model self.old) Call.take (took_or_refused result) (meaning S.Shelf.model self.new) }
-    {
-        match self.underway(&command) {
-            Shown::DataIn(byte) => {
-                self.place += 1;
-                Ok(byte)
-            }
-            Shown::Status(byte) => {
-                self.stage = Stage::Ended(command, byte);
-                Ok(byte)
-            }
-            _ => Err(Refusal::Misfit),
         }
     }
 }
@@ -88,7 +81,7 @@ impl<S: Shelf> Bus for StrictBus<S> {
 
     ghost did = { λ b c r a. Strictly (meaning S.Shelf.model b) c r (meaning S.Shelf.model a) };
 
-    ghost lawful = { λ b. stage_lawful _ _ _ _ _ b.stage (S.Shelf.lawful b.shelf) };
+    ghost lawful = { λ b. let l = S.Shelf.lawful b.shelf in Prim.search rules };
 
     ghost shows = { λ b o. stage_shows _ _ _ _ _ b.stage };
 
@@ -96,7 +89,7 @@ impl<S: Shelf> Bus for StrictBus<S> {
 
     fn look(&self) -> Shown {
         match &self.stage {
-            Stage::Free => Shown::Free,
+            Stage::Empty => Shown::Free,
             Stage::Fresh => Shown::Command,
             Stage::Commanded(command) => self.underway(command),
             Stage::Ended(_, _) => Shown::MessageIn(0),
@@ -104,20 +97,18 @@ impl<S: Shelf> Bus for StrictBus<S> {
     }
 
     fn select(&mut self, target: u8, greeting: &[u8]) -> Result<Selection, Refusal> {
-        let Stage::Free = self.stage else {
+        let Stage::Empty = self.stage else {
             return Err(Refusal::Misfit);
         };
-        let Some(greeting) = Greeting::read(greeting) else {
-            return Err(Refusal::Misfit);
-        };
+        let greeting = Greeting::read(greeting).ok_or(Refusal::Misfit)?;
         if !self.shelf.present(target) {
             return Ok(Selection::Absent);
         }
         self.stage = Stage::Fresh;
         self.target = target;
         self.greeting = greeting;
-        self.collected = 0;
         self.place = 0;
+        self.out.clear();
         Ok(Selection::Selected)
     }
 
@@ -129,9 +120,7 @@ impl<S: Shelf> Bus for StrictBus<S> {
         let Stage::Fresh = self.stage else {
             return Err(Refusal::Misfit);
         };
-        let Some(command) = Cdb::new(bytes) else {
-            return Err(Refusal::Misfit);
-        };
+        let command = Cdb::new(bytes).ok_or(Refusal::Misfit)?;
         self.stage = Stage::Commanded(command);
         Ok(())
     }
@@ -143,34 +132,40 @@ impl<S: Shelf> Bus for StrictBus<S> {
         let Shown::DataOut = self.underway(&command) else {
             return Err(Refusal::Misfit);
         };
-        self.out[self.collected] = byte;
         self.place += 1;
-        self.collected += 1;
+        self.out.push(byte);
         Ok(())
     }
 
     fn take(&mut self) -> Result<u8, Refusal> {
         match self.stage {
-            Stage::Free => Err(Refusal::Misfit),
-            Stage::Fresh => Err(Refusal::Misfit),
-            Stage::Commanded(command) => self.take_underway(command),
+            Stage::Empty | Stage::Fresh => Err(Refusal::Misfit),
+            Stage::Commanded(command) => match self.underway(&command) {
+                Shown::DataIn(byte) => {
+                    self.place += 1;
+                    Ok(byte)
+                }
+                Shown::Status(byte) => {
+                    self.stage = Stage::Ended(command, byte);
+                    Ok(byte)
+                }
+                _ => Err(Refusal::Misfit),
+            },
             Stage::Ended(command, _) => {
-                let out = &self.out[..self.collected];
-                let _ = self
-                    .shelf
-                    .finish(self.target, self.greeting.lun, command.as_slice(), out);
-                self.stage = Stage::Free;
+                let unit = self.unit();
+                let _ = self.shelf.finish(unit, command.as_slice(), &self.out);
+                self.stage = Stage::Empty;
                 Ok(0)
             }
         }
     }
 
     fn speak(&mut self, message: &[u8]) -> Result<(), Refusal> {
-        if let Stage::Free = self.stage {
+        if let Stage::Empty = self.stage {
             return Err(Refusal::Misfit);
         }
         if is_abort(message) {
-            self.stage = Stage::Free;
+            self.stage = Stage::Empty;
         }
         Ok(())
     }
@@ -178,6 +173,6 @@ impl<S: Shelf> Bus for StrictBus<S> {
     fn wait(&mut self) {}
 
     fn reset(&mut self) {
-        self.stage = Stage::Free;
+        self.stage = Stage::Empty;
     }
 }

@@ -4,4 +4,4 @@
 mod calls;
 mod state;
 
-pub use state::{Stage, StrictBus};
+pub use state::StrictBus;

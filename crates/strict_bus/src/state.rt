@@ -1,16 +1,9 @@
 // What the strict bus holds.
-ghost use Rattle.strict_bus.specs.Fields.{Within};
+ghost use Rattle.std.specs.Prelude.{◌≤◌, length};
 
-use scsi::{Cdb, Greeting};
-
-/// How far the one nexus has come, if there is one.
-#[derive(Clone, Copy)]
-pub enum Stage {
-    Free,
-    Fresh,
-    Commanded(Cdb),
-    Ended(Cdb, u8),
-}
+use arrayvec::ArrayVec;
+use bus::Stage;
+use scsi::Greeting;
 
 /// A bus over any shelf that never loses a selection, moves each command straight through, and never lets go.
 #[derive(Drop)]
@@ -20,7 +13,7 @@ pub struct StrictBus<S> {
     pub(crate) target: u8,
     pub(crate) greeting: Greeting,
     pub(crate) place: u16,
-    pub(crate) out: [u8; 2048],
-    pub(crate) collected: usize,
-    ghost within: { Within collected place },
+    pub(crate) out: ArrayVec<u8, 2048>,
+    ghost within: { length out.items ≤ place },
+    ghost bound: { place ≤ 2048 },
 }

@@ -5,8 +5,8 @@ ghost use Rattle.strip.specs.Image.{ramp, adler};
 pub fn draw(strip: &mut [u8])
     ensures { (i : ℕ) → i < length strip.new → slice_index strip.new i ≡ ramp i }
 {
-    for i in 0..strip.len() {
-        strip[i] = ramp(i);
+    for (i, byte) in strip.iter_mut().enumerate() {
+        *byte = ramp(i);
     }
 }
 

@@ -3,7 +3,7 @@ ghost use Rattle.strip.specs.Orders.{Asks, OneBlock};
 use std::fmt;
 
 /// What the task asks of a disk or of a film recorder.
-#[derive(Clone, Copy)]
+#[derive(Clone, Copy, PartialEq, Eq, Debug)]
 pub enum Order {
     /// Read this block of a disk.
     Read(u32),
@@ -22,8 +22,7 @@ impl Order {
             Order::Read(block) => one_block(0x08, *block),
             Order::Write(block) => one_block(0x0a, *block),
             Order::Print(count) => {
-                let high = (*count / 256) as u8;
-                let low = (*count % 256) as u8;
+                let [high, low] = count.to_be_bytes();
                 [0x0a, 0, 0, high, low, 0]
             }
         }
@@ -33,10 +32,8 @@ impl Order {
 fn one_block(code: u8, block: u32) -> [u8; 6]
     ensures { OneBlock code block result }
 {
-    let high = (block / 65_536 % 32) as u8;
-    let middle = (block / 256 % 256) as u8;
-    let low = (block % 256) as u8;
-    [code, high, middle, low, 1, 0]
+    let [_, high, middle, low] = block.to_be_bytes();
+    [code, high % 32, middle, low, 1, 0]
 }
 
 impl fmt::Display for Order {

@@ -1,7 +1,6 @@
-mod Scans
-mod Looking
 mod Changing
-mod Segments
+mod Looking
 mod Room
 mod Beginning
-mod Calling
+mod Filling
+mod Clearing

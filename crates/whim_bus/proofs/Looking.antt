@@ -1,52 +1,64 @@
--- What is shown, by what is kept of the rows. Assumes nothing.
-use Rattle.std.proofs.Common.{◌≡◌, ℕ, ◌≤◌, Bool, true, false, ◌&&◌, ltb, List, get_or, sym, ap, ◌∙◌, subst}
-use Rattle.std.proofs.lemmas.Bool.{le-ltb}
-use Rattle.scsi.specs.declared.cdb.Cdb.{Cdb}
-use Rattle.scsi.specs.Kept.{cdb_bytes}
+-- What is looked for among the rows, in the library's words and in those of the text. Assumes nothing.
+use Rattle.std.proofs.Common.{◌≡◌, ℕ, ◌+◌, Bool, true, false, cond, not, ◌&&◌, ◌||◌, ltb, leb, List, [], ◌∷◌, map, length, get_or, Some, None, Option, refl, sym, ap, ap₂, ◌∙◌, arith}
+use Rattle.std.specs.List.{list_any, position_or_len, count_by}
+use Rattle.std.specs.Option.{is_some}
+use Rattle.std.proofs.lemmas.Bool.{lt-ltb, le-ltb, ltb-true, ltb-false, leb-true, leb-false}
+use Rattle.std.proofs.lemmas.List.{length-map, get_or_past}
+use Rattle.std.proofs.lemmas.List.Sums.{passes_at_first}
 use Rattle.shelf.specs.declared.Way.{Way}
 use Rattle.shelf.specs.declared.Way.TheVariants.{Out}
-use Rattle.shelf.specs.Model.{Model, way_of, count_of}
-use Rattle.bus.specs.declared.Shown.{Shown}
-use Rattle.whim_bus.specs.declared.state.Stage.{Stage as Kept}
-use Rattle.whim_bus.specs.declared.state.Stage.TheVariants.{Commanded}
-use Rattle.whim_bus.specs.declared.state.Row.{Row as KeptRow}
-use Rattle.whim_bus.specs.declared.state.Line.{Line}
-use Rattle.whim_bus.specs.declared.state.Line.TheVariants.{Retaken, Held}
-use Rattle.whim_bus.specs.declared.state.Heard.{Heard}
-use Rattle.whim_bus.specs.Rows.{Row, blank, reads, any}
-use Rattle.whim_bus.specs.Showing.{is_out, must_wait, waiting_shown, next_shown, underway_shown, held_shown, greeting_shown, line_shown, shown}
-use Rattle.whim_bus.specs.View.{stage_of, row_of, rows_from, whim_of, blank_row}
-use Rattle.whim_bus.specs.Viewing.{row_is}
+use Rattle.shelf.specs.Model.{Model}
+use Rattle.bus.specs.State.{Name}
+use Rattle.whim_bus.specs.declared.rows.Row.{Row as KeptRow}
+use Rattle.whim_bus.specs.Rows.{Row, blank, is_open, is_empty, is_named}
+use Rattle.whim_bus.specs.Means.{found}
+use Rattle.whim_bus.specs.State.{Whim, odd}
+use Rattle.whim_bus.specs.Showing.{is_out, coming_back}
+use Rattle.whim_bus.specs.Refusing.{found_any, full}
+use Rattle.whim_bus.specs.View.{row_of}
+
+pub any_row : (p : Row → Bool) (xs : List KeptRow) → list_any (λ x. p (row_of x)) xs ≡ list_any p (map row_of xs)
+any_row p [] = refl
+any_row p (x ∷ xs) = ap (λ (b : Bool). p (row_of x) || b) (any_row p xs)
+
+first_row : (p : Row → Bool) (xs : List KeptRow) → position_or_len (λ x. p (row_of x)) xs ≡ position_or_len p (map row_of xs)
+first_row p [] = refl
+first_row p (x ∷ xs) = ap (λ (n : ℕ). cond (not (p (row_of x))) (1 + n) 0) (first_row p xs)
 
 pub goes_out : (w : Way) (a b : Bool) → w ≡ Out → a ≡ b → a ≡ is_out w && b
 goes_out w a b e f = f ∙ ap (λ (x : Way). is_out x && b) (sym e)
 
-pub next_waits : (m : Model) (rs : List Row) (r : Row) (d : List ℕ) (s : Shown) (w : Way) (n : ℕ)
-    → w ≡ way_of m r.target r.greeting.lun d → n ≡ count_of m r.target r.greeting.lun d → n ≤ r.place
-    → true ≡ is_out w && any (reads m r.target r.greeting.lun) rs → s ≡ waiting_shown r → s ≡ next_shown m rs r d
-next_waits m rs r d s w n way count le wait e =
-    let less : ltb r.place (count_of m r.target r.greeting.lun d) ≡ false = le-ltb _ _ (subst (λ (k : ℕ). k ≤ r.place) count le) in
-    let waits : must_wait m rs r d ≡ true = sym (wait ∙ ap (λ (x : Way). is_out x && any (reads m r.target r.greeting.lun) rs) way) in
-    e ∙ sym (simp (less, waits))
+-- the first that passes, if one does
+abbrev pub passing : (Row → Bool) → List Row → Option ℕ
+passing p rs = cond (ltb (position_or_len p rs) (length rs)) (Some (position_or_len p rs)) None
 
-pub held_commanded : (m : Model) (rs : List Row) (r : Row) (v : ℕ) (g : Kept) (d : Cdb) (s : Shown) → g ≡ Commanded d
-    → s ≡ underway_shown m rs r (cdb_bytes d) v → s ≡ held_shown m rs r (stage_of g) v
-held_commanded m rs r v g d s e f = f ∙ ap (λ (x : Kept). held_shown m rs r (stage_of x) v) (sym e)
+pub position_row : (p : Row → Bool) (xs : List KeptRow)
+    → cond (ltb (position_or_len (λ x. p (row_of x)) xs) (length xs)) (Some (position_or_len (λ x. p (row_of x)) xs)) None ≡ passing p (map row_of xs)
+position_row p xs =
+    ap₂ (λ (n i : ℕ). cond (ltb i n) (Some i) None) (sym (length-map xs row_of)) (first_row p xs)
 
-module _ (m : Model) (xs : List KeptRow) (out : List ℕ) (l : Line) (whims : List ℕ) (at draw k : ℕ) (x : KeptRow) (s : Shown) where
-  pub shown_retaken : (h : Heard) → l ≡ Retaken k h → x ≡ get_or xs k blank_row → ((b : ℕ → ℕ) → s ≡ greeting_shown (row_of b x) h)
-      → s ≡ shown (whim_of m xs out l whims at draw)
-  shown_retaken h e f g =
-      g (get_or (rows_from 0 out xs) k blank).bytes
-      ∙ ap (λ (y : KeptRow). greeting_shown (row_of (get_or (rows_from 0 out xs) k blank).bytes y) h) f
-      ∙ ap (λ (r : Row). greeting_shown r h) (sym (row_is 0 out xs k))
-      ∙ ap (λ (j : Line). line_shown (whim_of m xs out l whims at draw) j) (sym e)
+-- one passes exactly where the first passes
+there : (p : Row → Bool) → p blank ≡ false → (rs : List Row) → ltb (position_or_len p rs) (length rs) ≡ p (get_or rs (position_or_len p rs) blank)
+there p b rs = go (ltb (position_or_len p rs) (length rs)) refl
+  where
+    go : (t : Bool) → ltb (position_or_len p rs) (length rs) ≡ t → t ≡ p (get_or rs (position_or_len p rs) blank)
+    go true e = sym (passes_at_first p rs blank (ltb-true _ _ e))
+    go false e = sym (ap p (get_or_past rs (position_or_len p rs) blank (ltb-false _ _ e)) ∙ b)
 
-  pub shown_held : l ≡ Held k → x ≡ get_or xs k blank_row → ((b : ℕ → ℕ) → s ≡ held_shown m (rows_from 0 out xs) (row_of b x) (stage_of x.stage) draw)
-      → s ≡ shown (whim_of m xs out l whims at draw)
-  shown_held e f g =
-      g (get_or (rows_from 0 out xs) k blank).bytes
-      ∙ ap
-      (λ (y : KeptRow). held_shown m (rows_from 0 out xs) (row_of (get_or (rows_from 0 out xs) k blank).bytes y) (stage_of y.stage) draw) f
-      ∙ ap (λ (r : Row). held_shown m (rows_from 0 out xs) r r.stage draw) (sym (row_is 0 out xs k))
-      ∙ ap (λ (j : Line). line_shown (whim_of m xs out l whims at draw) j) (sym e)
+pub passing_open : (w : Whim) → odd w.draw ≡ true → passing is_open w.rows ≡ coming_back w
+passing_open w h = ap₂ (λ (s t : Bool). cond (s && t) (Some (position_or_len is_open w.rows)) None) (sym h) (there is_open refl w.rows)
+
+module _ (m : Model) (rs : List Row) (n : Name) where
+  -- the nexus of this name is open
+  pub no_room : true ≡ list_any (is_named n) rs → None ≡ cond (is_some (found m rs n) || leb 16 (count_by is_open rs)) None (Some (position_or_len is_empty rs))
+  no_room h = ap (λ (t : Bool). cond (t || leb 16 (count_by is_open rs)) None (Some (position_or_len is_empty rs))) (h ∙ sym (found_any m rs n))
+
+  -- it is not
+  pub room : length rs ≡ 16 → false ≡ list_any (is_named n) rs → passing is_empty rs ≡ cond (is_some (found m rs n) || leb 16 (count_by is_open rs)) None (Some (position_or_len is_empty rs))
+  room l h =
+      go (leb 16 (position_or_len is_empty rs)) refl
+      ∙ ap₂ (λ (s t : Bool). cond (s || t) None (Some (position_or_len is_empty rs))) (h ∙ sym (found_any m rs n)) (sym (full rs l))
+    where
+      go : (t : Bool) → leb 16 (position_or_len is_empty rs) ≡ t → passing is_empty rs ≡ cond t None (Some (position_or_len is_empty rs))
+      go true e = ap (λ (t : Bool). cond t (Some (position_or_len is_empty rs)) None) (le-ltb _ _ (omega (arith, leb-true _ _ e, l)))
+      go false e = ap (λ (t : Bool). cond t (Some (position_or_len is_empty rs)) None) (lt-ltb _ _ (omega (arith, leb-false _ _ e, l)))

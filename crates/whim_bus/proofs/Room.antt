@@ -1,80 +1,67 @@
--- A data byte is shown only of an open row, whose place has room. Assumes nothing.
-use Rattle.std.proofs.Common.{◌≡◌, ℕ, ◌%◌, ◌<◌, ◌≤◌, Bool, true, false, cond, not, ◌&&◌, eqb, ltb, List, length, get_or, sym, refl, ap, ◌∙◌, subst, ⊎_elim, arith}
-use mathlib.Core.Bool.{false≢true}
-use Rattle.std.proofs.lemmas.Bool.{ltb-true, cases_lt}
-use Rattle.std.proofs.lemmas.List.{get_or_past}
+-- A data byte is shown only of a row whose place has room. Assumes nothing.
+use Rattle.std.proofs.Common.{◌≡◌, ℕ, ◌%◌, ◌<◌, ◌≤◌, Bool, true, false, cond, not, ◌&&◌, eqb, ltb, List, length, get_or, refl, sym, ap, ◌∙◌, subst, arith}
+use Rattle.std.proofs.lemmas.Bool.{ltb-true, false≢true}
 use Rattle.shelf.specs.Model.{Model, way_of, count_of, byte_of, status_of}
 use Rattle.bus.specs.declared.Shown.{Shown}
 use Rattle.bus.specs.declared.Shown.TheVariants.{Status, MessageIn, Pause}
 use Rattle.bus.specs.Kinds.{kind_of}
-use Rattle.whim_bus.specs.declared.state.Row.{Row as KeptRow}
+use Rattle.bus.specs.Showing.{data_shown}
+use Rattle.whim_bus.specs.declared.rows.Row.{Row as KeptRow}
 use Rattle.whim_bus.specs.declared.state.Line.{Line}
 use Rattle.whim_bus.specs.declared.state.Line.TheVariants.{Held}
-use Rattle.whim_bus.specs.Rows.{Stage, empty, fresh, commanded, ended, Row, blank, stage_open}
-use Rattle.bus.specs.Showing.{data_shown}
-use Rattle.whim_bus.specs.Showing.{must_wait, waiting_shown, next_shown, underway_shown, held_shown, line_shown, shown}
-use Rattle.whim_bus.specs.View.{stage_of, row_of, rows_from, whim_of, blank_row}
-use Rattle.whim_bus.specs.Viewing.{row_is}
+use Rattle.whim_bus.specs.declared.state.WhimBus.{WhimBus}
+use Rattle.whim_bus.specs.Rows.{Stage, empty, fresh, commanded, ended, Row}
+use Rattle.whim_bus.specs.State.{row}
+use Rattle.whim_bus.specs.Showing.{must_wait, next_shown, underway_shown, held_shown, line_shown, shown}
+use Rattle.whim_bus.specs.View.{view}
+use Rattle.whim_bus.proofs.Changing.{row_at, holder_in_rows}
+
+-- what is shown of a command that is underway, by the draw
+by_draw : (P : Shown → Type 0) (m : Model) (rs : List Row) (r : Row) (d : List ℕ) (v : ℕ) → ((n : ℕ) → P (MessageIn n)) → P (next_shown m rs r d)
+    → P (underway_shown m rs r d v)
+by_draw P m rs r d v message next = go (eqb (v % 4) 1) (eqb (v % 4) 2) (eqb (v % 4) 3 && r.greeting.leave)
+  where
+    go : (a b c : Bool) → P (cond a (MessageIn 2) (cond b (MessageIn 3) (cond c (MessageIn 4) (next_shown m rs r d))))
+    go true b c = message 2
+    go false true c = message 3
+    go false false true = message 4
+    go false false false = next
+
+-- what is shown next, by the place
+by_place : (P : Shown → Type 0) (m : Model) (rs : List Row) (r : Row) (d : List ℕ)
+    → (r.place < count_of m r.target r.greeting.lun d → P (data_shown (way_of m r.target r.greeting.lun d) (byte_of m r.target r.greeting.lun d r.place)))
+    → ((n : ℕ) → P (MessageIn n)) → P Pause → P (Status (status_of m r.target r.greeting.lun d)) → P (next_shown m rs r d)
+by_place P m rs r d «data» message pause status =
+    go (ltb r.place (count_of m r.target r.greeting.lun d)) refl (must_wait m rs r d) (not (eqb r.saved r.place)) r.greeting.leave
+  where
+    go : (a : Bool) → ltb r.place (count_of m r.target r.greeting.lun d) ≡ a → (b s l : Bool)
+        → P
+        (cond a (data_shown (way_of m r.target r.greeting.lun d) (byte_of m r.target r.greeting.lun d r.place))
+        (cond b (cond s (MessageIn 2) (cond l (MessageIn 4) Pause)) (Status (status_of m r.target r.greeting.lun d))))
+    go true e b s l = «data» (ltb-true _ _ e)
+    go false e true true l = message 2
+    go false e true false true = message 4
+    go false e true false false = pause
+    go false e false s l = status
+
+---- a data byte
 
 abbrev is_data : Shown → Bool
 is_data s = ltb (kind_of s) 2
 
-waiting_no_data : (r : Row) → is_data (waiting_shown r) ≡ true → ⊥
-waiting_no_data r = go (not (eqb r.saved r.place)) r.greeting.leave
-  where
-    go : (a b : Bool) → is_data (cond a (MessageIn 2) (cond b (MessageIn 4) Pause)) ≡ true → ⊥
-    go true b h = false≢true h
-    go false true h = false≢true h
-    go false false h = false≢true h
+held_room : (m : Model) (rs : List Row) (r : Row) → ((t l : ℕ) (d : List ℕ) → count_of m t l d ≤ 2048) → (s : Stage) (v : ℕ)
+    → is_data (held_shown m rs r s v) ≡ true → r.place < 2048
+held_room m rs r small empty v h = absurd (false≢true h)
+held_room m rs r small fresh v h = absurd (false≢true h)
+held_room m rs r small (commanded d) v h =
+    by_draw (λ x. is_data x ≡ true → r.place < 2048) m rs r d v (λ n h. absurd (false≢true h))
+    (by_place (λ x. is_data x ≡ true → r.place < 2048) m rs r d (λ l h. omega (arith, l, small r.target r.greeting.lun d)) (λ n h. absurd (false≢true h))
+    (λ h. absurd (false≢true h)) (λ h. absurd (false≢true h))) h
+held_room m rs r small (ended d st) v h = absurd (false≢true h)
 
-module _ (m : Model) (small : (t l : ℕ) (d : List ℕ) → count_of m t l d ≤ 2048) (rs : List Row) (r : Row) where
-  next_room : (d : List ℕ) → is_data (next_shown m rs r d) ≡ true → r.place < 2048
-  next_room d = go (ltb r.place (count_of m r.target r.greeting.lun d)) refl (must_wait m rs r d)
-    where
-      go : (a : Bool) → ltb r.place (count_of m r.target r.greeting.lun d) ≡ a → (b : Bool)
-          → is_data
-          (cond a (data_shown (way_of m r.target r.greeting.lun d) (byte_of m r.target r.greeting.lun d r.place))
-          (cond b (waiting_shown r) (Status (status_of m r.target r.greeting.lun d))))
-          ≡ true
-          → r.place < 2048
-      go true e b h = omega (arith, ltb-true _ _ e, small r.target r.greeting.lun d)
-      go false e true h = absurd (waiting_no_data r h)
-      go false e false h = absurd (false≢true h)
-
-  underway_room : (d : List ℕ) (v : ℕ) → is_data (underway_shown m rs r d v) ≡ true → r.place < 2048
-  underway_room d v = go (eqb (v % 4) 1) (eqb (v % 4) 2) (eqb (v % 4) 3 && r.greeting.leave)
-    where
-      go : (a b c : Bool) → is_data (cond a (MessageIn 2) (cond b (MessageIn 3) (cond c (MessageIn 4) (next_shown m rs r d)))) ≡ true → r.place < 2048
-      go true b c h = absurd (false≢true h)
-      go false true c h = absurd (false≢true h)
-      go false false true h = absurd (false≢true h)
-      go false false false h = next_room d h
-
-  pub held_room : (s : Stage) (v : ℕ) → is_data (held_shown m rs r s v) ≡ true → (stage_open s ≡ true) × (r.place < 2048)
-  held_room empty v h = absurd (false≢true h)
-  held_room fresh v h = absurd (false≢true h)
-  held_room (commanded d) v h = (refl, underway_room d v h)
-  held_room (ended d st) v h = absurd (false≢true h)
-
--- a row that has a nexus is one of the rows
-pub open_below : (xs : List KeptRow) (k : ℕ) (x : KeptRow) → x ≡ get_or xs k blank_row → stage_open (stage_of x.stage) ≡ true → k < length xs
-open_below xs k x e h =
-    ⊎_elim (λ l. l)
-    (λ l. absurd (false≢true (sym (ap (λ (y : KeptRow). stage_open (stage_of y.stage)) (e ∙ get_or_past xs k blank_row l)) ∙ h)))
-    (cases_lt k (length xs))
-
-pub data_room : (m : Model) (xs : List KeptRow) (out : List ℕ) (l : Line) (whims : List ℕ) (at draw k : ℕ) (x : KeptRow)
-    → ((t l : ℕ) (d : List ℕ) → count_of m t l d ≤ 2048) → l ≡ Held k → x ≡ get_or xs k blank_row → length xs ≡ 16
-    → ltb (kind_of (shown (whim_of m xs out l whims at draw))) 2 ≡ true → (k < 16) × (x.place < 2048)
-data_room m xs out l whims at draw k x small e f n h =
-    (subst (λ (j : ℕ). k < j) n (open_below xs k x f both.0), both.1)
-  where
-    at_row : row_of (get_or (rows_from 0 out xs) k blank).bytes x ≡ get_or (rows_from 0 out xs) k blank
-    at_row = ap (λ (y : KeptRow). row_of (get_or (rows_from 0 out xs) k blank).bytes y) f ∙ sym (row_is 0 out xs k)
-
-    both : (stage_open (stage_of x.stage) ≡ true) × (x.place < 2048)
-    both =
-        held_room m small (rows_from 0 out xs) (row_of (get_or (rows_from 0 out xs) k blank).bytes x) (stage_of x.stage) draw
-        (ap (λ (r : Row). is_data (held_shown m (rows_from 0 out xs) r r.stage draw)) at_row
-        ∙ ap (λ (j : Line). is_data (line_shown (whim_of m xs out l whims at draw) j)) (sym e)
-        ∙ h)
+pub data_room : {X : Type 0} (model : X → Model) (s : WhimBus X) → length s.rows ≡ 16 → ((t l : ℕ) (d : List ℕ) → count_of (model s.shelf) t l d ≤ 2048)
+    → is_data (shown (view model s)) ≡ true → (k : ℕ) (d : KeptRow) → s.line ≡ Held k → (get_or s.rows k d).place < 2048
+data_room model s n small h k d e =
+    subst (λ (r : Row). r.place < 2048) (row_at s.rows k d (subst (λ (m : ℕ). k < m) (sym n) (holder_in_rows s k e)))
+    (held_room (model s.shelf) (view model s).rows (row (view model s) k) small (row (view model s) k).stage s.draw
+    (ap (λ (l : Line). is_data (line_shown (view model s) l)) (sym e) ∙ h))

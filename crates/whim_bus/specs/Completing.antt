@@ -1,5 +1,6 @@
 -- A whim bus keeps the rules of a bus: a command completed, and bytes taken on a held line. Assumes nothing.
 use Rattle.std.specs.Prelude.{◌≡◌, ℕ, ◌-◌, ◌≤◌, true, false, cond, not, List, [], length, get_or, is_some, Some, None, Option, slice_index_or, refl}
+use Rattle.std.specs.List.{count_by}
 use Rattle.std.proofs.Common.{sym, ap, subst, ◌∙◌}
 use Rattle.std.proofs.lemmas.Bool.{false≢true}
 use Rattle.shelf.specs.Model.{Model, way_of, count_of, finished}
@@ -10,7 +11,7 @@ use Rattle.bus.specs.Kinds.{kind_of, byte_shown, shows_command, shows_data_out}
 use Rattle.bus.specs.State.{Nexus, Cable, free, same_name, close, change, given, with_shelf as with_model, sent as commands, ended as ends}
 use Rattle.bus.specs.Effects.{finishes, takes as bus_takes, completes as bus_completes}
 use Rattle.bus.specs.Rules.{taken}
-use Rattle.whim_bus.specs.Rows.{Stage, commanded, ended, Row, blank, row_name, is_open, number, at_stage, filled}
+use Rattle.whim_bus.specs.Rows.{Stage, commanded, ended, Row, blank, row_name, is_open, at_stage, filled}
 use Rattle.whim_bus.specs.State.{Whim, with_row}
 use Rattle.whim_bus.specs.Means.{command_sent, collected, nexus, found, cable, apart, all_sound}
 use Rattle.bus.specs.Calls.{took_shown}
@@ -59,7 +60,7 @@ module _ (m : Model) (rs : List Row) (k : ℕ) (whims : List ℕ) (at draw : ℕ
           record {
             shelf = finish_is d st e i;
             nexuses = λ j. cond (same_name j (row_name r)) None (found_stays m r.target r.greeting.lun d out rs j i);
-            opened = number is_open rs - 1;
+            opened = count_by is_open rs - 1;
             line = free;
             begun = [];
           }

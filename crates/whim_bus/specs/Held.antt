@@ -1,9 +1,9 @@
 -- Changes of the row that holds the line, as changes of its nexus. Assumes nothing.
-use Rattle.std.specs.Prelude.{◌≡◌, ℕ, zero, suc, ◌<◌, ◌≤◌, Bool, true, cond, List, [], ◌∷◌, ◌++◌, length, take, Some, None, Option, ◌==◌, slice_index_or, slice_set, refl}
+use Rattle.std.specs.Prelude.{◌≡◌, ℕ, zero, suc, ◌<◌, ◌≤◌, Bool, true, cond, List, [], ◌∷◌, ◌++◌, length, take, Some, None, Option, ◌==◌, slice_set, refl}
 use Rattle.std.proofs.Common.{sym, ap, ap₂, subst, ◌∙◌, ⊎_elim, arith, length-set, length-append, get_or-set_same, take_all}
 use Rattle.std.proofs.Math.Seq.{take-nil}
-use Rattle.std.proofs.lemmas.Bool.{cases_lt, ne_eqb, eq-eqb, false≢true}
-use Rattle.std.proofs.lemmas.List.{get_or_past, take-append-le}
+use Rattle.std.proofs.lemmas.Bool.{cases_lt, ne_eqb, eq-eqb}
+use Rattle.std.proofs.lemmas.List.{take-append-le}
 use Rattle.shelf.specs.declared.Way.{Way}
 use Rattle.shelf.specs.declared.Way.TheVariants.{Still, In, Out}
 use Rattle.shelf.specs.Model.{Model, way_of}
@@ -14,7 +14,7 @@ use Rattle.whim_bus.specs.declared.state.Line.TheVariants.{Free, Held}
 use Rattle.whim_bus.specs.Rows.{Stage, empty, fresh, commanded, ended, Row, blank, row_name, is_open, emptied, going_back}
 use Rattle.whim_bus.specs.State.{Whim, row, with_row, with_line}
 use Rattle.whim_bus.specs.Means.{collected, nexus, found, line_of, cable, apart, row_sound, all_sound, line_sound, sound}
-use Rattle.whim_bus.specs.Lookup.{Alone, open_alone, found_here, nexus_in, found_set, number_same, number_less, apart_set}
+use Rattle.whim_bus.specs.Lookup.{Alone, open_below, open_alone, found_here, nexus_in, found_set, number_same, number_less, apart_set}
 use Rattle.whim_bus.specs.Sound.{sound_is, each_at, each_set, emptied_sound}
 
 ---- out bytes
@@ -72,10 +72,6 @@ nexus_back m r l =
 
 ---- the row and its nexus
 
-below : (rs : List Row) (k : ℕ) → is_open (slice_index_or rs k blank) ≡ true → k < length rs
-below rs k o =
-    ⊎_elim (λ l. l) (λ l. absurd (false≢true (sym (ap is_open (get_or_past rs k blank l)) ∙ o))) (cases_lt k (length rs))
-
 -- rows and line after row k is changed
 module _ (w : Whim) (k : ℕ) (different : apart w.rows ≡ true) (each : all_sound w.shelf w.rows ≡ true) (sixteen : length w.rows ≡ 16) where
   pub row_changed : k < length w.rows → (r' : Row) → row (with_row k r' w) k ≡ r'
@@ -107,7 +103,7 @@ module _ (w : Whim) (k : ℕ) (different : apart w.rows ≡ true) (each : all_so
         record {
           shelf = w.shelf;
           nexuses = λ j. path j i;
-          opened = number_same k w.rows r' (o' ∙ sym o) i;
+          opened = number_same k w.rows r' (open_below k w.rows o) (o' ∙ sym o) i;
           line = line_path i;
           begun = [];
         }
@@ -118,13 +114,13 @@ module _ (w : Whim) (k : ℕ) (different : apart w.rows ≡ true) (each : all_so
         path : (j : Name) → found w.shelf (slice_set w.rows k r') j
             ≡ put (row_name (row w k)) (adjust f (found w.shelf w.rows (row_name (row w k)))) (found w.shelf w.rows) j
         path j =
-            found_set w.shelf k w.rows r' (below w.rows k o) (subst (λ (n : Name). Alone k n w.rows) (sym same) alone) (λ _. sym same) j
+            found_set w.shelf k w.rows r' (open_below k w.rows o) (subst (λ (n : Name). Alone k n w.rows) (sym same) alone) (λ _. sym same) j
             ∙ ap₂ (λ (n : Name) (x : Option Nexus). put n x (found w.shelf w.rows) j) same there'
 
         line_path : line_of (row (with_row k r' w)) w.line ≡ line_of (row w) w.line
         line_path =
             ap (λ (l : Line). line_of (row (with_row k r' w)) l) line
-            ∙ ap held (ap row_name (row_changed (below w.rows k o) r') ∙ same)
+            ∙ ap held (ap row_name (row_changed (open_below k w.rows o) r') ∙ same)
             ∙ sym (ap (λ (l : Line). line_of (row w) l) line)
 
     -- its nexus is closed, and the line is free
@@ -133,8 +129,8 @@ module _ (w : Whim) (k : ℕ) (different : apart w.rows ≡ true) (each : all_so
         λ i.
         record {
           shelf = w.shelf;
-          nexuses = λ j. found_set w.shelf k w.rows (emptied (row w k)) (below w.rows k o) alone (λ _. refl) j i;
-          opened = number_less k w.rows (emptied (row w k)) o refl i;
+          nexuses = λ j. found_set w.shelf k w.rows (emptied (row w k)) (open_below k w.rows o) alone (λ _. refl) j i;
+          opened = number_less k w.rows (emptied (row w k)) (open_below k w.rows o) o refl i;
           line = free;
           begun = [];
         }
@@ -147,4 +143,4 @@ module _ (w : Whim) (k : ℕ) (different : apart w.rows ≡ true) (each : all_so
         → (sound (with_line (Held k) (with_row k r' w)) ≡ true) × (sound (with_line Free (with_row k r' w)) ≡ true)
     changed_sound r' same o' s =
         let a : Alone k (row_name r') w.rows = subst (λ (n : Name). Alone k n w.rows) (sym same) alone in
-        (set_sound (Held k) r' a s (ap is_open (row_changed (below w.rows k o) r') ∙ o'), set_sound Free r' a s refl)
+        (set_sound (Held k) r' a s (ap is_open (row_changed (open_below k w.rows o) r') ∙ o'), set_sound Free r' a s refl)

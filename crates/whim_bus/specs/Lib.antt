@@ -10,7 +10,6 @@ pub mod Going
 pub mod Sound
 pub mod Ruling
 pub mod Refusing
-pub mod Viewing
 pub mod Keeping
 pub mod Held
 pub mod Selecting

@@ -1,11 +1,15 @@
 -- Rows that are looked up by name, and one of them changed. Assumes nothing.
-use Rattle.std.specs.Prelude.{◌≡◌, ℕ, zero, suc, ◌-◌, ◌<◌, Bool, true, false, cond, not, ◌&&◌, ◌||◌, List, [], ◌∷◌, map, length, Some, None, Option, ◌==◌, slice_index_or, slice_set, refl}
-use Rattle.std.proofs.Common.{sym, ap, ap₂, subst, ◌∙◌, arith}
-use Rattle.std.proofs.lemmas.Bool.{eqb-true, and_parts, and_from, or_parts, not-true, false≢true}
+use Rattle.std.specs.Prelude.{◌≡◌, ℕ, zero, suc, ◌+◌, ◌-◌, ◌<◌, Bool, true, false, cond, not, ◌&&◌, ◌||◌, List, [], ◌∷◌, map, length, Some, None, Option, ◌==◌, slice_index_or, slice_set, refl}
+use Rattle.std.specs.List.{list_any, count_by}
+use Rattle.std.proofs.Common.{sym, ap, ap₂, subst, ◌∙◌, ⊎_elim, arith}
+use Rattle.std.proofs.lemmas.List.{get_or_past}
+use Rattle.std.proofs.lemmas.List.Folds.{list_any_at}
+use Rattle.std.proofs.lemmas.List.Sums.{sum_by-cons, sum_by-set}
+use Rattle.std.proofs.lemmas.Bool.{cases_lt, eqb-true, and_parts, and_from, or_parts, not-true, false≢true}
 use Rattle.shelf.specs.Model.{Model}
 use Rattle.bus.specs.State.{Name, Nexus, same_tag, same_name, put}
 use Rattle.bus.proofs.Names.{same_name_refl}
-use Rattle.whim_bus.specs.Rows.{Row, blank, row_name, is_open, is_named, any, number, emptied}
+use Rattle.whim_bus.specs.Rows.{Row, blank, row_name, is_open, is_named, emptied}
 use Rattle.whim_bus.specs.Means.{nexus, found, apart}
 
 ---- names
@@ -26,23 +30,18 @@ name_eq a b h =
 
 abbrev pub Alone : ℕ → Name → List Row → Type 0
 Alone k n [] = Unit {0}
-Alone zero n (r ∷ rs) = any (is_named n) rs ≡ false
+Alone zero n (r ∷ rs) = list_any (is_named n) rs ≡ false
 Alone (suc k) n (r ∷ rs) = (is_named n r ≡ false) × Alone k n rs
 
 -- a name that no row has
-pub absent_alone : (k : ℕ) (n : Name) (rs : List Row) → any (is_named n) rs ≡ false → Alone k n rs
+pub absent_alone : (k : ℕ) (n : Name) (rs : List Row) → list_any (is_named n) rs ≡ false → Alone k n rs
 absent_alone k n [] h = tt
 absent_alone zero n (r ∷ rs) h = (or_parts (is_named n r) _ h).1
 absent_alone (suc k) n (r ∷ rs) h = ((or_parts (is_named n r) _ h).0, absent_alone k n rs (or_parts (is_named n r) _ h).1)
 
-any_at : (k : ℕ) (n : Name) (rs : List Row) → is_named n (slice_index_or rs k blank) ≡ true → any (is_named n) rs ≡ true
-any_at k n [] h = absurd (false≢true h)
-any_at zero n (r ∷ rs) h = ap (λ (t : Bool). t || any (is_named n) rs) h
-any_at (suc k) n (r ∷ rs) h = or_right (is_named n r) (any (is_named n) rs) (any_at k n rs h)
-  where
-    or_right : (x y : Bool) → y ≡ true → (x || y) ≡ true
-    or_right true y e = refl
-    or_right false y e = e
+-- an open row is one of the rows
+pub open_below : (k : ℕ) (rs : List Row) → is_open (slice_index_or rs k blank) ≡ true → k < length rs
+open_below k rs o = ⊎_elim (λ l. l) (λ l. absurd (false≢true (sym (ap is_open (get_or_past rs k blank l)) ∙ o))) (cases_lt k (length rs))
 
 named_itself : (r : Row) → is_open r ≡ true → is_named (row_name r) r ≡ true
 named_itself r h = and_from (is_open r) _ h (same_name_refl (row_name r))
@@ -51,23 +50,23 @@ named_itself r h = and_from (is_open r) _ h (same_name_refl (row_name r))
 pub open_alone : (k : ℕ) (rs : List Row) → apart rs ≡ true → is_open (slice_index_or rs k blank) ≡ true → Alone k (row_name (slice_index_or rs k blank)) rs
 open_alone k [] a h = tt
 open_alone zero (r ∷ rs) a h =
-    let p : not (is_open r && any (is_named (row_name r)) rs) ≡ true = (and_parts (not (is_open r && any (is_named (row_name r)) rs)) _ a).0 in
-    ap (λ (t : Bool). t && any (is_named (row_name r)) rs) (sym h) ∙ not-true _ p
+    let p : not (is_open r && list_any (is_named (row_name r)) rs) ≡ true = (and_parts (not (is_open r && list_any (is_named (row_name r)) rs)) _ a).0 in
+    ap (λ (t : Bool). t && list_any (is_named (row_name r)) rs) (sym h) ∙ not-true _ p
 open_alone (suc k) (r ∷ rs) a h =
-    let p = and_parts (not (is_open r && any (is_named (row_name r)) rs)) _ a in
+    let p = and_parts (not (is_open r && list_any (is_named (row_name r)) rs)) _ a in
     (other (is_named (row_name (slice_index_or rs k blank)) r) refl (not-true _ p.0), open_alone k rs p.1 h)
   where
-    other : (t : Bool) → is_named (row_name (slice_index_or rs k blank)) r ≡ t → is_open r && any (is_named (row_name r)) rs ≡ false → t ≡ false
+    other : (t : Bool) → is_named (row_name (slice_index_or rs k blank)) r ≡ t → is_open r && list_any (is_named (row_name r)) rs ≡ false → t ≡ false
     other false e f = refl
     other true e f =
         let q = and_parts (is_open r) _ e in
         let same : row_name (slice_index_or rs k blank) ≡ row_name r = name_eq _ _ q.1 in
-        let there : any (is_named (row_name r)) rs ≡ true = any_at k (row_name r) rs (subst (λ (n : Name). is_named n (slice_index_or rs k blank) ≡ true) same (named_itself (slice_index_or rs k blank) h)) in
+        let there : list_any (is_named (row_name r)) rs ≡ true = list_any_at (is_named (row_name r)) rs k blank (open_below k rs h) (subst (λ (n : Name). is_named n (slice_index_or rs k blank) ≡ true) same (named_itself (slice_index_or rs k blank) h)) in
         sym (sym f ∙ and_from _ _ q.0 there)
 
 ---- the look-up
 
-pub found_none : (m : Model) (rs : List Row) (n : Name) → any (is_named n) rs ≡ false → found m rs n ≡ None
+pub found_none : (m : Model) (rs : List Row) (n : Name) → list_any (is_named n) rs ≡ false → found m rs n ≡ None
 found_none m [] n h = refl
 found_none m (r ∷ rs) n h =
     let p = or_parts (is_named n r) _ h in
@@ -101,7 +100,7 @@ found_set m zero (r ∷ rs) r' l a s j = go (same_name j (row_name r')) refl (is
     go : (t : Bool) → same_name j (row_name r') ≡ t → (o : Bool)
         → cond (o && t) (Some (nexus m r')) (found m rs j) ≡ cond t (cond o (Some (nexus m r')) None) (cond (is_named j r) (Some (nexus m r)) (found m rs j))
     go true e true = refl
-    go true e false = found_none m rs j (subst (λ (n : Name). any (is_named n) rs ≡ false) (sym (name_eq j (row_name r') e)) a)
+    go true e false = found_none m rs j (subst (λ (n : Name). list_any (is_named n) rs ≡ false) (sym (name_eq j (row_name r') e)) a)
     go false e true = sym (ap (λ (t : Bool). cond t (Some (nexus m r)) (found m rs j)) (stale e (is_named j r) refl))
     go false e false = sym (ap (λ (t : Bool). cond t (Some (nexus m r)) (found m rs j)) (stale e (is_named j r) refl))
 found_set m (suc k) (r ∷ rs) r' l a s j =
@@ -117,37 +116,27 @@ found_set m (suc k) (r ∷ rs) r' l a s j =
 
 ---- how many are open
 
-pub number_same : (k : ℕ) (rs : List Row) (r' : Row) → is_open r' ≡ is_open (slice_index_or rs k blank) → number is_open (slice_set rs k r') ≡ number is_open rs
-number_same k [] r' h = refl
-number_same zero (r ∷ rs) r' h = ap (λ (t : Bool). cond t (suc (number is_open rs)) (number is_open rs)) h
-number_same (suc k) (r ∷ rs) r' h = ap (λ (n : ℕ). cond (is_open r) (suc n) n) (number_same k rs r' h)
+-- what one row adds to the count
+abbrev one : Bool → ℕ
+one t = cond t 1 0
 
-more : (t : Bool) (a b : ℕ) → a ≡ suc b → cond t (suc a) a ≡ suc (cond t (suc b) b)
-more true a b e = ap suc e
-more false a b e = e
+-- row k of rs is changed to r'
+module _ (k : ℕ) (rs : List Row) (r' : Row) (l : k < length rs) where
+  recount : count_by is_open (slice_set rs k r') + one (is_open (slice_index_or rs k blank)) ≡ count_by is_open rs + one (is_open r')
+  recount = sum_by-set (λ r. one (is_open r)) rs k r' blank l
 
-pub number_more : (k : ℕ) (rs : List Row) (r' : Row) → k < length rs → is_open (slice_index_or rs k blank) ≡ false → is_open r' ≡ true
-    → number is_open (slice_set rs k r') ≡ suc (number is_open rs)
-number_more k [] r' l h o = absurd (omega arith)
-number_more zero (r ∷ rs) r' l h o =
-    ap (λ (t : Bool). cond t (suc (number is_open rs)) (number is_open rs)) o
-    ∙ sym (ap (λ (t : Bool). suc (cond t (suc (number is_open rs)) (number is_open rs))) h)
-number_more (suc k) (r ∷ rs) r' l h o = more (is_open r) _ _ (number_more k rs r' (omega arith) h o)
+  pub number_same : is_open r' ≡ is_open (slice_index_or rs k blank) → count_by is_open (slice_set rs k r') ≡ count_by is_open rs
+  number_same h = omega (arith, recount, ap one h)
 
-fewer : (k : ℕ) (rs : List Row) (r' : Row) → is_open (slice_index_or rs k blank) ≡ true → is_open r' ≡ false → number is_open rs ≡ suc (number is_open (slice_set rs k r'))
-fewer k [] r' h o = absurd (false≢true h)
-fewer zero (r ∷ rs) r' h o =
-    ap (λ (t : Bool). cond t (suc (number is_open rs)) (number is_open rs)) h
-    ∙ sym (ap (λ (t : Bool). suc (cond t (suc (number is_open rs)) (number is_open rs))) o)
-fewer (suc k) (r ∷ rs) r' h o = more (is_open r) _ _ (fewer k rs r' h o)
+  pub number_more : is_open (slice_index_or rs k blank) ≡ false → is_open r' ≡ true → count_by is_open (slice_set rs k r') ≡ suc (count_by is_open rs)
+  number_more h o = omega (arith, recount, ap one h, ap one o)
 
-pub number_less : (k : ℕ) (rs : List Row) (r' : Row) → is_open (slice_index_or rs k blank) ≡ true → is_open r' ≡ false
-    → number is_open (slice_set rs k r') ≡ number is_open rs - 1
-number_less k rs r' h o = let e = fewer k rs r' h o in omega arith
+  pub number_less : is_open (slice_index_or rs k blank) ≡ true → is_open r' ≡ false → count_by is_open (slice_set rs k r') ≡ count_by is_open rs - 1
+  number_less h o = omega (arith, recount, ap one h, ap one o)
 
 ---- open rows keep different names
 
-any_set : (p : Row → Bool) (k : ℕ) (rs : List Row) (r' : Row) → any p rs ≡ false → p r' ≡ false → any p (slice_set rs k r') ≡ false
+any_set : (p : Row → Bool) (k : ℕ) (rs : List Row) (r' : Row) → list_any p rs ≡ false → p r' ≡ false → list_any p (slice_set rs k r') ≡ false
 any_set p k [] r' h o = refl
 any_set p zero (r ∷ rs) r' h o = ap₂ (λ (a b : Bool). a || b) o (or_parts (p r) _ h).1
 any_set p (suc k) (r ∷ rs) r' h o = ap₂ (λ (a b : Bool). a || b) (or_parts (p r) _ h).0 (any_set p k rs r' (or_parts (p r) _ h).1 o)
@@ -155,13 +144,13 @@ any_set p (suc k) (r ∷ rs) r' h o = ap₂ (λ (a b : Bool). a || b) (or_parts 
 pub apart_set : (k : ℕ) (rs : List Row) (r' : Row) → apart rs ≡ true → Alone k (row_name r') rs → apart (slice_set rs k r') ≡ true
 apart_set k [] r' h a = refl
 apart_set zero (r ∷ rs) r' h a =
-    and_from _ _ (ap (λ (t : Bool). not (is_open r' && t)) a ∙ no_more (is_open r')) (and_parts (not (is_open r && any (is_named (row_name r)) rs)) _ h).1
+    and_from _ _ (ap (λ (t : Bool). not (is_open r' && t)) a ∙ no_more (is_open r')) (and_parts (not (is_open r && list_any (is_named (row_name r)) rs)) _ h).1
   where
     no_more : (t : Bool) → not (t && false) ≡ true
     no_more true = refl
     no_more false = refl
 apart_set (suc k) (r ∷ rs) r' h a =
-    let p = and_parts (not (is_open r && any (is_named (row_name r)) rs)) _ h in
+    let p = and_parts (not (is_open r && list_any (is_named (row_name r)) rs)) _ h in
     and_from _ _ (go (is_open r) refl (not-true _ p.0)) (apart_set k rs r' p.1 a.1)
   where
     strange : is_open r ≡ true → (t : Bool) → is_named (row_name r) r' ≡ t → t ≡ false
@@ -171,7 +160,7 @@ apart_set (suc k) (r ∷ rs) r' h a =
         let same : row_name r ≡ row_name r' = name_eq _ _ q.1 in
         sym (sym a.0 ∙ subst (λ (n : Name). is_named n r ≡ true) same (named_itself r o))
 
-    go : (t : Bool) → is_open r ≡ t → t && any (is_named (row_name r)) rs ≡ false → not (t && any (is_named (row_name r)) (slice_set rs k r')) ≡ true
+    go : (t : Bool) → is_open r ≡ t → t && list_any (is_named (row_name r)) rs ≡ false → not (t && list_any (is_named (row_name r)) (slice_set rs k r')) ≡ true
     go false o e = refl
     go true o e = ap not (any_set (is_named (row_name r)) k rs r' e (strange o (is_named (row_name r) r') refl))
 
@@ -181,9 +170,9 @@ pub found_cleared : (m : Model) (rs : List Row) (n : Name) → found m (map empt
 found_cleared m [] n = refl
 found_cleared m (r ∷ rs) n = found_cleared m rs n
 
-pub number_cleared : (rs : List Row) → number is_open (map emptied rs) ≡ 0
+pub number_cleared : (rs : List Row) → count_by is_open (map emptied rs) ≡ 0
 number_cleared [] = refl
-number_cleared (r ∷ rs) = number_cleared rs
+number_cleared (r ∷ rs) = omega (arith, sum_by-cons (λ r. one (is_open r)) (emptied r) (map emptied rs), number_cleared rs)
 
 pub apart_cleared : (rs : List Row) → apart (map emptied rs) ≡ true
 apart_cleared [] = refl

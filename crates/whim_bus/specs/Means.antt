@@ -1,5 +1,6 @@
 -- What a whim bus means. Assumes nothing.
 use Rattle.std.specs.Prelude.{ℕ, Bool, true, cond, not, ◌&&◌, List, [], ◌∷◌, length, Some, None, Option, ◌==◌, nat_le, nat_lt}
+use Rattle.std.specs.List.{list_all, list_any, count_by}
 use Rattle.shelf.specs.Model.{Model, way_of, count_of}
 use Rattle.shelf.specs.Serving.{outs}
 use Rattle.bus.specs.State.{Name, Nexus, Heard as Said, nothing, named, tag_due, Line as BusLine, free, retaken, held, Cable, BusState}
@@ -7,7 +8,7 @@ use Rattle.whim_bus.specs.declared.state.Line.{Line}
 use Rattle.whim_bus.specs.declared.state.Line.TheVariants.{Free, Retaken, Held}
 use Rattle.whim_bus.specs.declared.state.Heard.{Heard}
 use Rattle.whim_bus.specs.declared.state.Heard.TheVariants.{Nothing, Named, TagDue}
-use Rattle.whim_bus.specs.Rows.{Stage, empty, fresh, commanded, ended, Row, row_name, is_open, is_named, is_tagged, any, number}
+use Rattle.whim_bus.specs.Rows.{Stage, empty, fresh, commanded, ended, Row, row_name, is_open, is_named, is_tagged}
 use Rattle.whim_bus.specs.State.{Whim, row}
 use Rattle.whim_bus.specs.Showing.{shown}
 
@@ -64,7 +65,7 @@ abbrev pub cable : Whim → Cable
 cable w = record {
   shelf = w.shelf;
   nexuses = found w.shelf w.rows;
-  opened = number is_open w.rows;
+  opened = count_by is_open w.rows;
   line = line_of (row w) w.line;
   begun = [];
 }
@@ -74,7 +75,7 @@ cable w = record {
 -- open rows have different names
 abbrev pub apart : List Row → Bool
 apart [] = true
-apart (r ∷ rs) = not (is_open r && any (is_named (row_name r)) rs) && apart rs
+apart (r ∷ rs) = not (is_open r && list_any (is_named (row_name r)) rs) && apart rs
 
 -- the place of a nexus has not passed the count of its command, nor its saved place the place
 abbrev pub stage_sound : Model → Row → Stage → Bool
@@ -87,8 +88,7 @@ abbrev pub row_sound : Model → Row → Bool
 row_sound m r = nat_lt r.greeting.lun 8 && stage_sound m r r.stage
 
 abbrev pub all_sound : Model → List Row → Bool
-all_sound m [] = true
-all_sound m (r ∷ rs) = row_sound m r && all_sound m rs
+all_sound m rs = list_all (row_sound m) rs
 
 -- a target that goes on with its greeting past the LUN has a tag to give
 abbrev pub heard_sound : Row → Heard → Bool

@@ -1,5 +1,5 @@
 -- The rows of a whim bus, one for each open nexus, and what is looked for among them. Assumes nothing.
-use Rattle.std.specs.Prelude.{ℕ, suc, Bool, true, false, cond, not, ◌&&◌, ◌||◌, List, [], ◌∷◌, Some, None, Option, ◌==◌}
+use Rattle.std.specs.Prelude.{ℕ, suc, Bool, true, false, cond, not, ◌&&◌, List, Some, None, Option, ◌==◌}
 use Rattle.scsi.specs.declared.greeting.Greeting.{Greeting}
 use Rattle.shelf.specs.declared.Way.{Way}
 use Rattle.shelf.specs.declared.Way.TheVariants.{Still, In, Out}
@@ -65,23 +65,6 @@ reads m t l r = r.target == t && (r.greeting.lun == l && stage_reads m t l r.sta
 abbrev pub is_tagged : Option ℕ → Bool
 is_tagged None = false
 is_tagged (Some v) = true
-
----- among rows
-
--- the number of the first that passes the test; where none does, how many there are
-abbrev pub first : {A : Type 0} → (A → Bool) → List A → ℕ
-first p [] = 0
-first p (x ∷ xs) = cond (p x) 0 (suc (first p xs))
-
--- whether one passes the test
-abbrev pub any : {A : Type 0} → (A → Bool) → List A → Bool
-any p [] = false
-any p (x ∷ xs) = p x || any p xs
-
--- how many pass the test
-abbrev pub number : {A : Type 0} → (A → Bool) → List A → ℕ
-number p [] = 0
-number p (x ∷ xs) = cond (p x) (suc (number p xs)) (number p xs)
 
 ---- changes of a row
 

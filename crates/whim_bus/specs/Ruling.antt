@@ -1,5 +1,6 @@
 -- A whim bus keeps the rules of a bus, call by call. Assumes nothing.
 use Rattle.std.specs.Prelude.{◌≡◌, ℕ, Bool, true, false, cond, not, ◌&&◌, List, [], length, get_or, is_some, Some, None, Option, ◌≢◌, slice_index_or, refl}
+use Rattle.std.specs.List.{position_or_len}
 use Rattle.std.proofs.Common.{sym, ap, subst, ◌∙◌}
 use Rattle.std.proofs.lemmas.Bool.{leb-false, and_parts, and_from, or_parts, not-false, false≢true}
 use Rattle.std.proofs.lemmas.List.{length-map}
@@ -20,7 +21,7 @@ use Rattle.whim_bus.specs.declared.state.Line.{Line}
 use Rattle.whim_bus.specs.declared.state.Line.TheVariants.{Free, Retaken, Held}
 use Rattle.whim_bus.specs.declared.state.Heard.{Heard}
 use Rattle.whim_bus.specs.declared.state.Heard.TheVariants.{Nothing, Named, TagDue}
-use Rattle.whim_bus.specs.Rows.{Stage, Row, blank, row_name, is_open, is_tagged, first, emptied}
+use Rattle.whim_bus.specs.Rows.{Stage, Row, blank, row_name, is_open, is_tagged, emptied}
 use Rattle.whim_bus.specs.State.{Whim, row, odd, next_whim, drawn}
 use Rattle.whim_bus.specs.Showing.{tag_byte, greeting_shown, held_shown, shown}
 use Rattle.whim_bus.specs.Means.{nexus, found, line_of, cable, apart, all_sound, heard_sound, line_sound, sound, meaning}
@@ -96,22 +97,22 @@ module _ (m : Model) (rs : List Row) (whims : List ℕ) (at draw : ℕ) (sixteen
   free_kept : (c : Call) → due (meaning (standing m rs Free whims at draw)) c ≡ false → Kept (standing m rs Free whims at draw) c
   free_kept (select t g) d =
       select_kept (standing m rs Free whims at draw) t g (record { sixteen = sixteen; different = different; each = each; held_open = refl }) d
-  free_kept accept d = let both = go (odd draw && is_open (slice_index_or rs (first is_open rs) blank)) refl d in record { rule = both.0; order = both.1 }
+  free_kept accept d = let both = go (odd draw && is_open (slice_index_or rs (position_or_len is_open rs) blank)) refl d in record { rule = both.0; order = both.1 }
     where
-      go : (b : Bool) → odd draw && is_open (slice_index_or rs (first is_open rs) blank) ≡ b
-          → not (shows_reselect (cond b (Reselect (get_or rs (first is_open rs) blank).target) FREE)) ≡ false
-          → (cable (standing m rs (Retaken (first is_open rs) Nothing) whims at draw)
-          ≡ retakes (target_shown (cond b (Reselect (get_or rs (first is_open rs) blank).target) FREE)) (cable (standing m rs Free whims at draw)))
-          × (sound (standing m rs (Retaken (first is_open rs) Nothing) whims at draw) ≡ true)
-      go true e h = (refl, line_order (Retaken (first is_open rs) Nothing) (and_from _ true (and_parts (odd draw) _ e).1 refl))
+      go : (b : Bool) → odd draw && is_open (slice_index_or rs (position_or_len is_open rs) blank) ≡ b
+          → not (shows_reselect (cond b (Reselect (get_or rs (position_or_len is_open rs) blank).target) FREE)) ≡ false
+          → (cable (standing m rs (Retaken (position_or_len is_open rs) Nothing) whims at draw)
+          ≡ retakes (target_shown (cond b (Reselect (get_or rs (position_or_len is_open rs) blank).target) FREE)) (cable (standing m rs Free whims at draw)))
+          × (sound (standing m rs (Retaken (position_or_len is_open rs) Nothing) whims at draw) ≡ true)
+      go true e h = (refl, line_order (Retaken (position_or_len is_open rs) Nothing) (and_from _ true (and_parts (odd draw) _ e).1 refl))
       go false e h = absurd (false≢true (sym h))
   free_kept (command c) d = record { rule = refl; order = line_order Free refl }
   free_kept (give v) d = record { rule = refl; order = line_order Free refl }
-  free_kept take d = let both = go (odd draw && is_open (slice_index_or rs (first is_open rs) blank)) d in record { rule = both.0; order = both.1 }
+  free_kept take d = let both = go (odd draw && is_open (slice_index_or rs (position_or_len is_open rs) blank)) d in record { rule = both.0; order = both.1 }
     where
-      go : (b : Bool) → not (is_some (byte_shown (cond b (Reselect (get_or rs (first is_open rs) blank).target) FREE))) ≡ false
-          → (cable (takes (cond b (Reselect (get_or rs (first is_open rs) blank).target) FREE) (standing m rs Free whims at draw)) ≡ cable (standing m rs Free whims at draw))
-          × (sound (takes (cond b (Reselect (get_or rs (first is_open rs) blank).target) FREE) (standing m rs Free whims at draw)) ≡ true)
+      go : (b : Bool) → not (is_some (byte_shown (cond b (Reselect (get_or rs (position_or_len is_open rs) blank).target) FREE))) ≡ false
+          → (cable (takes (cond b (Reselect (get_or rs (position_or_len is_open rs) blank).target) FREE) (standing m rs Free whims at draw)) ≡ cable (standing m rs Free whims at draw))
+          × (sound (takes (cond b (Reselect (get_or rs (position_or_len is_open rs) blank).target) FREE) (standing m rs Free whims at draw)) ≡ true)
       go true h = absurd (false≢true (sym h))
       go false h = absurd (false≢true (sym h))
   free_kept (speak b) d = let both = go (aborts b) in record { rule = both.0; order = both.1 }

@@ -1,5 +1,6 @@
 -- What a whim bus shows: it follows from its rows, its line and the byte drawn last. Assumes nothing.
 use Rattle.std.specs.Prelude.{ℕ, ◌%◌, Bool, true, false, cond, not, ◌&&◌, List, Some, None, Option, ◌==◌, nat_lt}
+use Rattle.std.specs.List.{list_any, position_or_len}
 use Rattle.scsi.specs.Rows.{◌then◌, ◌else◌}
 use Rattle.scsi.specs.Messages.{identify_byte}
 use Rattle.shelf.specs.declared.Way.{Way}
@@ -12,14 +13,18 @@ use Rattle.whim_bus.specs.declared.state.Line.{Line}
 use Rattle.whim_bus.specs.declared.state.Line.TheVariants.{Free, Retaken, Held}
 use Rattle.whim_bus.specs.declared.state.Heard.{Heard}
 use Rattle.whim_bus.specs.declared.state.Heard.TheVariants.{Nothing, Named, TagDue}
-use Rattle.whim_bus.specs.Rows.{Stage, empty, fresh, commanded, ended, Row, is_open, reads, first, any}
+use Rattle.whim_bus.specs.Rows.{Stage, empty, fresh, commanded, ended, Row, is_open, reads}
 use Rattle.whim_bus.specs.State.{Whim, row, odd}
 
 ---- a free line
 
 -- the number of the row whose nexus comes back first; on a free line every open nexus is away
 abbrev pub returner : Whim → ℕ
-returner w = first is_open w.rows
+returner w = position_or_len is_open w.rows
+
+-- the row whose nexus comes back, after an odd draw
+abbrev pub coming_back : Whim → Option ℕ
+coming_back w = cond (odd w.draw && is_open (row w (returner w))) (Some (returner w)) None
 
 -- after an odd draw RESELECT for the first away row if there is one, else FREE
 abbrev pub free_shown : Whim → Shown
@@ -46,7 +51,7 @@ is_out Out = true
 
 -- an out command may not end while a nexus of its unit has been sent an in command
 abbrev pub must_wait : Model → List Row → Row → List ℕ → Bool
-must_wait m rs r d = is_out (way_of m r.target r.greeting.lun d) && any (reads m r.target r.greeting.lun) rs
+must_wait m rs r d = is_out (way_of m r.target r.greeting.lun d) && list_any (reads m r.target r.greeting.lun) rs
 
 -- in the status's stead: SAVE DATA POINTER when the saved place differs from the place, else DISCONNECT where permitted, else PAUSE
 abbrev pub waiting_shown : Row → Shown

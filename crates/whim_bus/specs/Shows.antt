@@ -1,5 +1,6 @@
 -- A whim bus in order shows what a bus may show. Assumes nothing.
 use Rattle.std.specs.Prelude.{◌≡◌, ℕ, ◌+◌, ◌≤◌, Bool, true, false, cond, ◌&&◌, List, [], ◌∷◌, Some, None, Option, ◌==◌, ◌≢◌, refl}
+use Rattle.std.specs.List.{list_any}
 use Rattle.std.proofs.Common.{sym, ap, subst, ◌∙◌, arith}
 use Rattle.std.proofs.lemmas.Bool.{eq-eqb, and_parts, and_from, or_parts, false≢true}
 use Rattle.scsi.specs.Messages.{identify_byte}
@@ -14,7 +15,7 @@ use Rattle.whim_bus.specs.declared.state.Line.{Line}
 use Rattle.whim_bus.specs.declared.state.Line.TheVariants.{Free, Retaken, Held}
 use Rattle.whim_bus.specs.declared.state.Heard.{Heard}
 use Rattle.whim_bus.specs.declared.state.Heard.TheVariants.{Nothing, Named, TagDue}
-use Rattle.whim_bus.specs.Rows.{Stage, empty, fresh, commanded, ended, Row, row_name, is_open, is_named, is_in, stage_reads, reads, is_tagged, any}
+use Rattle.whim_bus.specs.Rows.{Stage, empty, fresh, commanded, ended, Row, row_name, is_open, is_named, is_in, stage_reads, reads, is_tagged}
 use Rattle.whim_bus.specs.State.{Whim, row, odd}
 use Rattle.whim_bus.specs.Showing.{returner, tag_byte, is_out, must_wait, line_shown}
 use Rattle.whim_bus.specs.Means.{command_sent, status_taken, nexus, found, line_of, cable, apart, row_sound, all_sound, heard_sound, line_sound, sound, meaning}
@@ -30,7 +31,7 @@ stage_reader m t l d fresh e w = let z : ◌≡◌ {A = ℕ} 0 1 = cc in absurd 
 stage_reader m t l d (commanded c) e w = let same : c ≡ d = cc in ap (λ (x : List ℕ). is_in (way_of m t l x)) same ∙ ap is_in w
 stage_reader m t l d (ended c st) e w = let same : c ≡ d = cc in ap (λ (x : List ℕ). is_in (way_of m t l x)) same ∙ ap is_in w
 
-no_reader : (m : Model) (rs : List Row) (t l : ℕ) → any (reads m t l) rs ≡ false → NoReader m (found m rs) t l
+no_reader : (m : Model) (rs : List Row) (t l : ℕ) → list_any (reads m t l) rs ≡ false → NoReader m (found m rs) t l
 no_reader m [] t l h k y d e c w = let z : ◌≡◌ {A = ℕ} 0 1 = cc in omega arith
 no_reader m (r ∷ rs) t l h k y d e c w =
     go (is_named (record { target = t; lun = l; tag = k }) r) refl e (no_reader m rs t l (or_parts (reads m t l r) _ h).1 k y d)
@@ -58,7 +59,7 @@ module _ (m : Model) (rs : List Row) (r : Row) where
   alone : (d : List ℕ) → must_wait m rs r d ≡ false → way_of m r.target r.greeting.lun d ≡ Out → NoReader m (found m rs) r.target r.greeting.lun
   alone d h w =
       no_reader m rs r.target r.greeting.lun
-      (ap (λ (x : Way). is_out x && any (reads m r.target r.greeting.lun) rs) (sym w) ∙ h)
+      (ap (λ (x : Way). is_out x && list_any (reads m r.target r.greeting.lun) rs) (sym w) ∙ h)
 
   underway_may : (d : List ℕ) → r.stage ≡ commanded d → r.place ≤ count_of m r.target r.greeting.lun d → (s : Shown) → Going m rs r d s
       → MayShow m (found m rs) (row_name r) (nexus m r) s

@@ -1,5 +1,6 @@
 -- The whim bus: what each call answers and does, with every draw. Assumes nothing.
 use Rattle.std.specs.Prelude.{◌≡◌, ℕ, Bool, true, false, cond, List, map, Some, None, Option, ◌==◌}
+use Rattle.std.specs.List.{position_or_len}
 use Rattle.scsi.specs.Rows.{◌then◌, ◌else◌}
 use Rattle.scsi.specs.declared.greeting.Greeting.{Greeting}
 use Rattle.scsi.specs.Greetings.{greeting_of}
@@ -15,7 +16,7 @@ use Rattle.whim_bus.specs.declared.state.Line.{Line}
 use Rattle.whim_bus.specs.declared.state.Line.TheVariants.{Free, Retaken, Held}
 use Rattle.whim_bus.specs.declared.state.Heard.{Heard}
 use Rattle.whim_bus.specs.declared.state.Heard.TheVariants.{Nothing, Named, TagDue}
-use Rattle.whim_bus.specs.Rows.{Stage, empty, fresh, commanded, ended, Row, is_empty, first, emptied, taken_by, at_stage, moved_on, filled, saving, going_back}
+use Rattle.whim_bus.specs.Rows.{Stage, empty, fresh, commanded, ended, Row, is_empty, emptied, taken_by, at_stage, moved_on, filled, saving, going_back}
 use Rattle.whim_bus.specs.State.{Whim, row, odd, with_shelf, with_rows, with_row, with_line, next_whim, drawn}
 use Rattle.whim_bus.specs.Showing.{returner, shown}
 use Rattle.whim_bus.specs.Means.{meaning}
@@ -49,7 +50,7 @@ abbrev pub selects : ℕ → Option Greeting → Whim → Whim
 selects t None w = w
 selects t (Some g) w =
     cond (is_present w.shelf t)
-    (cond (odd (next_whim w)) (drawn w) (opens_row t g (first is_empty w.rows) (drawn w)))
+    (cond (odd (next_whim w)) (drawn w) (opens_row t g (position_or_len is_empty w.rows) (drawn w)))
     w
 
 abbrev pub selection : ℕ → Whim → Reply

@@ -9,7 +9,7 @@ ghost use Rattle.whim_bus.specs.Shows;
 ghost use Rattle.whim_bus.specs.Ruling;
 ghost use Rattle.std.proofs.Common.{rules};
 
-use crate::rows::blank;
+use crate::rows::Row;
 use crate::state::{Line, WhimBus};
 use bus::{Bus, Refusal, Selection, Shown, is_abort};
 use scsi::{Cdb, Greeting};
@@ -24,8 +24,7 @@ impl<S: Shelf> WhimBus<S> {
     {
         WhimBus {
             shelf,
-            rows: [blank(); 16],
-            out: [0; 32768],
+            rows: [Row::BLANK; 16],
             line: Line::Free,
             whims,
             at: 0,
@@ -57,16 +56,12 @@ impl<S: Shelf> Bus for WhimBus<S> {
     }
 
     fn select(&mut self, target: u8, greeting: &[u8]) -> Result<Selection, Refusal> {
-        let Shown::Free = self.shown() else {
-            return Err(Refusal::Misfit);
-        };
-        let Some(greeting) = Greeting::read(greeting) else {
-            return Err(Refusal::Misfit);
-        };
-        if self.refuses(target, &greeting) {
+        if self.shown() != Shown::Free {
             return Err(Refusal::Misfit);
         }
-        let selection = self.choose(target, greeting);
+        let greeting = Greeting::read(greeting).ok_or(Refusal::Misfit)?;
+        let k = self.room_for(target, &greeting).ok_or(Refusal::Misfit)?;
+        let selection = self.choose(k, target, greeting);
         self.settle();
         Ok(selection)
     }
@@ -80,48 +75,37 @@ impl<S: Shelf> Bus for WhimBus<S> {
     }
 
     fn command(&mut self, bytes: &[u8]) -> Result<(), Refusal> {
-        let Shown::Command = self.shown() else {
+        if self.shown() != Shown::Command {
             return Err(Refusal::Misfit);
-        };
-        let Some(command) = Cdb::new(bytes) else {
-            return Err(Refusal::Misfit);
-        };
-        self.send(command);
+        }
+        self.send(Cdb::new(bytes).ok_or(Refusal::Misfit)?);
         self.settle();
         Ok(())
     }
 
     fn give(&mut self, byte: u8) -> Result<(), Refusal> {
-        let Shown::DataOut = self.shown() else {
+        if self.shown() != Shown::DataOut {
             return Err(Refusal::Misfit);
-        };
+        }
         self.fill(byte);
         self.settle();
         Ok(())
     }
 
     fn take(&mut self) -> Result<u8, Refusal> {
-        let byte = match self.shown() {
-            Shown::DataIn(byte) => {
-                self.move_on();
-                byte
-            }
-            Shown::Status(byte) => {
-                self.end(byte);
-                byte
-            }
-            Shown::MessageIn(byte) => {
-                self.hear(byte);
-                byte
-            }
-            _ => return Err(Refusal::Misfit),
-        };
+        let shown = self.shown();
+        let byte = shown.byte().ok_or(Refusal::Misfit)?;
+        match shown {
+            Shown::DataIn(_) => self.move_on(),
+            Shown::Status(_) => self.end(byte),
+            _ => self.hear(byte),
+        }
         self.settle();
         Ok(byte)
     }
 
     fn speak(&mut self, message: &[u8]) -> Result<(), Refusal> {
-        if let Shown::Free | Shown::Reselect(_) = self.shown() {
+        if matches!(self.shown(), Shown::Free | Shown::Reselect(_)) {
             return Err(Refusal::Misfit);
         }
         if is_abort(message) {

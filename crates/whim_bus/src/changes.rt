@@ -1,24 +1,22 @@
 // What changes in a whim bus: draws, rows, the line and the shelf.
-ghost use Rattle.std.specs.Prelude.{◌≡◌, ℕ, ◌*◌, ◌<◌, ◌≤◌, true, map, length, if◌then◌else◌, Some, nat_lt};
+ghost use Rattle.std.specs.Prelude.{◌≡◌, ◌<◌, true, map, cond, None, Some, IfSome, nat_lt};
+ghost use Rattle.std.specs.List.{list_any, position_or_len};
 ghost use Rattle.scsi.specs.Kept.{cdb_bytes};
-ghost use Rattle.shelf.specs.Serving.{firsts, served};
-ghost use Rattle.bus.specs.Kinds.{kind_of};
+ghost use Rattle.bus.specs.Kinds.{kind_of, shows_reselect};
 ghost use Rattle.bus.specs.Calls.{selection_reply};
-ghost use Rattle.bus.specs.Refusals.{greeting_refused};
-ghost use Rattle.whim_bus.specs.Rows.{is_open, moved_on, filled, saving, going_back, emptied};
-ghost use Rattle.whim_bus.specs.State.{row, drawn, with_row, with_line, with_rows};
-ghost use Rattle.whim_bus.specs.Showing.{is_out, shown, returner};
+ghost use Rattle.bus.specs.Refusals.{name_of, greeting_refused};
+ghost use Rattle.whim_bus.specs.Rows.{is_empty, is_named, moved_on, filled, emptied};
+ghost use Rattle.whim_bus.specs.State.{row, row_number, drawn, with_line, with_rows};
+ghost use Rattle.whim_bus.specs.Showing.{shown, returner};
 ghost use Rattle.whim_bus.specs.Means.{cable};
-ghost use Rattle.whim_bus.specs.Text.{status_kept, draw_due, settled, opens_row, selects, selection, on_row, sent, ending, comes_back, hears, closes_row, completes, held_hears, message_taken, breaks_off};
-ghost use Rattle.whim_bus.specs.View.{stage_of, row_of, segment, view};
+ghost use Rattle.whim_bus.specs.Text.{draw_due, settled, opens_row, selects, selection, on_row, sent, ending, comes_back, hears, closes_row, completes, held_hears, message_taken, breaks_off};
+ghost use Rattle.whim_bus.specs.View.{row_of, view};
 
-use crate::rows::{
-    any_named, clear, first_empty, first_open, is_odd, is_underway, put_row, row_at,
-};
-use crate::state::{Heard, Line, Row, Stage, WhimBus};
-use bus::Selection;
+use crate::rows::{Row, clear, is_odd};
+use crate::state::{Heard, Line, WhimBus};
+use bus::{Selection, Stage};
 use scsi::{Cdb, Greeting};
-use shelf::{Shelf, Way};
+use shelf::Shelf;
 
 impl<S: Shelf> WhimBus<S> {
     // Draws the next whim byte.
@@ -36,7 +34,7 @@ impl<S: Shelf> WhimBus<S> {
         match self.line {
             Line::Free => true,
             Line::Retaken(_, _) => false,
-            Line::Held(k) => is_underway(&row_at(&self.rows, k)),
+            Line::Held(k) => self.rows[k].is_underway(),
         }
     }
 
@@ -49,30 +47,37 @@ impl<S: Shelf> WhimBus<S> {
         }
     }
 
-    // Whether a greeting to this target is refused: its nexus is open, or every row is taken.
-    pub(crate) fn refuses(&self, target: u8, greeting: &Greeting) -> bool
-        ensures { result ≡ greeting_refused (cable (view S.Shelf.model self.now)) target (Some greeting.now) }
+    // Whether a nexus of this name is open.
+    fn any_named(&self, target: u8, greeting: &Greeting) -> bool
+        ensures { result ≡ list_any (is_named (name_of target greeting.now)) (view S.Shelf.model self.now).rows }
     {
-        any_named(&self.rows, target, greeting) || first_empty(&self.rows) >= 16
+        self.rows.iter().any(|row| row.is_named(target, greeting))
+    }
+
+    // The row for a nexus that this greeting opens: none where its nexus is open, or every row is taken.
+    pub(crate) fn room_for(&self, target: u8, greeting: &Greeting) -> Option<usize>
+        ensures first { result ≡ cond (greeting_refused (cable (view S.Shelf.model self.now)) target (Some greeting.now)) None (Some (position_or_len is_empty (view S.Shelf.model self.now).rows)) }
+        ensures in_rows { IfSome result (λ k. k < 16) }
+    {
+        if self.any_named(target, greeting) {
+            return None;
+        }
+        self.rows.iter().position(|row| !row.is_open())
     }
 
     // Opens a fresh nexus in this row, and has it hold the line.
     fn open_row(&mut self, k: usize, target: u8, greeting: Greeting)
+        requires { k < 16 }
         ensures { view S.Shelf.model self.new ≡ opens_row target greeting k (view S.Shelf.model self.old) }
     {
-        let row = Row {
-            target,
-            greeting,
-            stage: Stage::Fresh,
-            place: 0,
-            saved: 0,
-        };
-        put_row(&mut self.rows, k, row);
+        self.rows[k].open(target, greeting);
         self.line = Line::Held(k);
     }
 
-    // A selection that is not refused: a present target draws, and odd is lost.
-    pub(crate) fn choose(&mut self, target: u8, greeting: Greeting) -> Selection
+    // A selection that has this row: a present target draws, and odd is lost.
+    pub(crate) fn choose(&mut self, k: usize, target: u8, greeting: Greeting) -> Selection
+        requires in_rows { k < 16 }
+        requires first { k ≡ position_or_len is_empty (view S.Shelf.model self.old).rows }
         ensures reply { selection_reply result ≡ selection target (view S.Shelf.model self.old) }
         ensures after { view S.Shelf.model self.new ≡ selects target (Some greeting) (view S.Shelf.model self.old) }
     {
@@ -83,7 +88,6 @@ impl<S: Shelf> WhimBus<S> {
         if is_odd(self.draw) {
             return Selection::Lost;
         }
-        let k = first_empty(&self.rows);
         self.open_row(k, target, greeting);
         Selection::Selected
     }
@@ -93,9 +97,7 @@ impl<S: Shelf> WhimBus<S> {
         ensures { view S.Shelf.model self.new ≡ on_row (sent (cdb_bytes command)) self.old.line (view S.Shelf.model self.old) }
     {
         if let Line::Held(k) = self.line {
-            let mut row = row_at(&self.rows, k);
-            row.stage = Stage::Commanded(command);
-            put_row(&mut self.rows, k, row);
+            self.rows[k].send(command);
         }
     }
 
@@ -105,9 +107,7 @@ impl<S: Shelf> WhimBus<S> {
         ensures { view S.Shelf.model self.new ≡ on_row moved_on self.old.line (view S.Shelf.model self.old) }
     {
         if let Line::Held(k) = self.line {
-            let mut row = row_at(&self.rows, k);
-            row.place += 1;
-            put_row(&mut self.rows, k, row);
+            self.rows[k].move_on();
         }
     }
 
@@ -117,10 +117,7 @@ impl<S: Shelf> WhimBus<S> {
         ensures { view S.Shelf.model self.new ≡ on_row (filled byte) self.old.line (view S.Shelf.model self.old) }
     {
         if let Line::Held(k) = self.line {
-            let mut row = row_at(&self.rows, k);
-            self.out[k * 2048 + usize::from(row.place)] = byte;
-            row.place += 1;
-            put_row(&mut self.rows, k, row);
+            self.rows[k].fill(byte);
         }
     }
 
@@ -129,39 +126,20 @@ impl<S: Shelf> WhimBus<S> {
         ensures { view S.Shelf.model self.new ≡ on_row (ending status) self.old.line (view S.Shelf.model self.old) }
     {
         if let Line::Held(k) = self.line {
-            let mut row = row_at(&self.rows, k);
-            row.stage = ended(row.stage, status);
-            put_row(&mut self.rows, k, row);
+            self.rows[k].end(status);
         }
-    }
-
-    // Saves the place of the nexus in this row.
-    fn save(&mut self, k: usize)
-        ensures { view S.Shelf.model self.new ≡ with_row k (saving (row (view S.Shelf.model self.old) k)) (view S.Shelf.model self.old) }
-    {
-        let mut row = row_at(&self.rows, k);
-        row.saved = row.place;
-        put_row(&mut self.rows, k, row);
-    }
-
-    // Has the nexus in this row go back to its saved place.
-    fn go_back(&mut self, k: usize)
-        ensures { view S.Shelf.model self.new ≡ with_row k (going_back (row (view S.Shelf.model self.old) k)) (view S.Shelf.model self.old) }
-    {
-        let mut row = row_at(&self.rows, k);
-        row.place = row.saved;
-        put_row(&mut self.rows, k, row);
     }
 
     // SAVE DATA POINTER, RESTORE POINTERS or DISCONNECT to the nexus in this row, which holds the line.
     fn hear_underway(&mut self, byte: u8, k: usize)
+        requires { k < 16 }
         ensures { view S.Shelf.model self.new ≡ hears byte k (row (view S.Shelf.model self.old) k) (view S.Shelf.model self.old) }
     {
         match byte {
-            0x02 => self.save(k),
-            0x03 => self.go_back(k),
+            0x02 => self.rows[k].save(),
+            0x03 => self.rows[k].go_back(),
             0x04 => {
-                self.go_back(k);
+                self.rows[k].go_back();
                 self.line = Line::Free;
             }
             _ => {}
@@ -170,32 +148,29 @@ impl<S: Shelf> WhimBus<S> {
 
     // Closes the nexus in this row, and frees the line.
     fn close_row(&mut self, k: usize)
+        requires { k < 16 }
         ensures { view S.Shelf.model self.new ≡ closes_row k (row (view S.Shelf.model self.old) k) (view S.Shelf.model self.old) }
     {
-        let mut row = row_at(&self.rows, k);
-        row.stage = Stage::Empty;
-        put_row(&mut self.rows, k, row);
+        self.rows[k].close();
         self.line = Line::Free;
     }
 
     // Has the shelf serve the command of the nexus in this row, and closes it.
     fn complete(&mut self, k: usize, command: Cdb)
-        requires { is_open (row (view S.Shelf.model self.old) k) ≡ true }
+        requires { k < 16 }
         ensures { view S.Shelf.model self.new ≡ completes (cdb_bytes command) k (row (view S.Shelf.model self.old) k) (view S.Shelf.model self.old) }
     {
-        let row = row_at(&self.rows, k);
-        serve(&mut self.shelf, &self.out, k, &row, &command);
+        self.rows[k].serve(&mut self.shelf, &command);
         self.close_row(k);
     }
 
     // A message byte to the nexus in this row, which holds the line.
     fn held_hear(&mut self, byte: u8, k: usize)
+        requires { k < 16 }
         ensures { view S.Shelf.model self.new ≡ held_hears byte k (row (view S.Shelf.model self.old) k) (row (view S.Shelf.model self.old) k).stage (view S.Shelf.model self.old) }
     {
-        let row = row_at(&self.rows, k);
-        match row.stage {
-            Stage::Empty => {}
-            Stage::Fresh => {}
+        match self.rows[k].stage {
+            Stage::Empty | Stage::Fresh => {}
             Stage::Commanded(_) => self.hear_underway(byte, k),
             Stage::Ended(command, _) => self.complete(k, command),
         }
@@ -207,18 +182,19 @@ impl<S: Shelf> WhimBus<S> {
     {
         match self.line {
             Line::Free => {}
-            Line::Retaken(k, heard) => {
-                self.line = comes_back(k, &row_at(&self.rows, k), heard);
-            }
+            Line::Retaken(k, heard) => self.line = comes_back(k, &self.rows[k], heard),
             Line::Held(k) => self.held_hear(byte, k),
         }
     }
 
-    // Lets the first row that has a nexus retake the line.
+    // Lets the nexus that is shown to come back retake the line.
     pub(crate) fn let_back(&mut self)
+        requires { shows_reselect (shown (view S.Shelf.model self.old)) ≡ true }
         ensures { view S.Shelf.model self.new ≡ with_line (Line.Retaken (returner (view S.Shelf.model self.old)) Heard.Nothing) (view S.Shelf.model self.old) }
     {
-        self.line = Line::Retaken(first_open(&self.rows), Heard::Nothing);
+        if let Some(k) = self.returner() {
+            self.line = Line::Retaken(k, Heard::Nothing);
+        }
     }
 
     // Closes every nexus unfinished, and frees the line.
@@ -241,59 +217,14 @@ impl<S: Shelf> WhimBus<S> {
     }
 }
 
-// A stage with its status.
-fn ended(stage: Stage, status: u8) -> Stage
-    ensures { stage_of result ≡ status_kept status (stage_of stage) }
-{
-    match stage {
-        Stage::Empty => Stage::Empty,
-        Stage::Fresh => Stage::Fresh,
-        Stage::Commanded(command) => Stage::Ended(command, status),
-        Stage::Ended(command, _) => Stage::Ended(command, status),
-    }
-}
-
 // The line after one more byte of the greeting of the row that comes back.
 fn comes_back(k: usize, row: &Row, heard: Heard) -> Line
-    ensures { (bytes : ℕ → ℕ) → result ≡ comes_back k (row_of bytes row.now) heard }
+    ensures line { result ≡ comes_back k (row_of row.now) heard }
+    ensures same_row { row_number result ≡ k }
 {
     match heard {
-        Heard::Nothing => match row.greeting.tag {
-            None => Line::Held(k),
-            Some(_) => Line::Retaken(k, Heard::Named),
-        },
+        Heard::Nothing if row.greeting.tag.is_some() => Line::Retaken(k, Heard::Named),
         Heard::Named => Line::Retaken(k, Heard::TagDue),
-        Heard::TagDue => Line::Held(k),
-    }
-}
-
-// Serves a command on the shelf, an out command with the first bytes of its row.
-fn serve<S: Shelf>(shelf: &mut S, out: &[u8], k: usize, row: &Row, command: &Cdb)
-    requires { (k < 16) × (length out.now ≡ 32768) }
-    ensures { S.Shelf.model shelf.new ≡ served (S.Shelf.model shelf.old) row.now.target row.now.greeting.lun (cdb_bytes command.now) (segment out.now k) }
-{
-    let lun = row.greeting.lun;
-    let bytes = command.as_slice();
-    let (way, count) = shelf.way(row.target, lun, bytes);
-    let part = segment_part(out, k, out_length(way, count));
-    let _ = shelf.finish(row.target, lun, bytes, part);
-}
-
-// The first bytes of the segment of a row.
-fn segment_part(out: &[u8], k: usize, n: usize) -> &[u8]
-    requires { (k < 16) × ((n ≤ 2048) × (length out.now ≡ 32768)) }
-    ensures { result.now ≡ firsts n (segment out.now k) }
-{
-    let start = k * 2048;
-    &out[start..start + n]
-}
-
-// How many bytes go out with a command of this way and count.
-fn out_length(way: Way, count: u16) -> usize
-    ensures { result ≡ (if is_out way then count else 0) }
-{
-    match way {
-        Way::Still | Way::In => 0,
-        Way::Out => usize::from(count),
+        Heard::Nothing | Heard::TagDue => Line::Held(k),
     }
 }

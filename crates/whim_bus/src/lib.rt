@@ -7,4 +7,5 @@ mod rows;
 mod shown;
 mod state;
 
-pub use state::{Heard, Line, Row, Stage, WhimBus};
+pub use rows::Row;
+pub use state::{Heard, Line, WhimBus};

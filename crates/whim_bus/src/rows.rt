@@ -1,21 +1,31 @@
-// The rows of a whim bus: one of them by its number, and what is looked for among them.
-ghost use Rattle.std.specs.Prelude.{◌≡◌, map, slice_index_or, slice_set};
-ghost use Rattle.bus.specs.State.{same_tag};
+// A row of a whim bus, and what is looked for among the rows.
+ghost use Rattle.std.specs.Prelude.{◌≡◌, ◌<◌, ◌≤◌, map};
+ghost use Rattle.scsi.specs.Kept.{cdb_bytes};
+ghost use Rattle.shelf.specs.Serving.{outs, served};
 ghost use Rattle.bus.specs.Refusals.{name_of};
-ghost use Rattle.whim_bus.specs.Rows.{is_open, is_empty, is_named, reads, first, any};
+ghost use Rattle.whim_bus.specs.Rows.{is_open, is_named, reads, emptied, taken_by, moved_on, filled, saving, going_back};
 ghost use Rattle.whim_bus.specs.State.{odd};
-ghost use Rattle.whim_bus.specs.Text.{is_underway};
-ghost use Rattle.whim_bus.specs.View.{stage_of, blank_row, plain, vacated};
+ghost use Rattle.whim_bus.specs.Text.{is_underway, sent, ending};
+ghost use Rattle.whim_bus.specs.View.{row_of};
 
-use crate::state::{Row, Stage};
-use scsi::Greeting;
-use shelf::{Shelf, Way};
+use bus::Stage;
+use scsi::{Cdb, Greeting};
+use shelf::{Shelf, Unit, Way};
 
-/// A row with no nexus.
-pub(crate) fn blank() -> Row
-    ensures { result ≡ blank_row }
-{
-    Row {
+/// A row: the nexus's target and greeting, how far it has come, its place in the data and its saved place, and its out bytes by place.
+#[derive(Drop)]
+pub struct Row {
+    pub(crate) target: u8,
+    pub(crate) greeting: Greeting,
+    pub(crate) stage: Stage,
+    pub(crate) place: u16,
+    pub(crate) saved: u16,
+    pub(crate) out: [u8; 2048],
+}
+
+impl Row {
+    /// A row that never had a nexus.
+    pub(crate) const BLANK: Row = Row {
         target: 0,
         greeting: Greeting {
             lun: 0,
@@ -25,133 +35,149 @@ pub(crate) fn blank() -> Row
         stage: Stage::Empty,
         place: 0,
         saved: 0,
+        out: [0; 2048],
+    };
+
+    /// Whether the row has a nexus.
+    pub(crate) fn is_open(&self) -> bool
+        ensures { result ≡ is_open (row_of self.now) }
+    {
+        self.stage != Stage::Empty
     }
-}
 
-/// The row of this number; an empty one where there is none.
-pub(crate) fn row_at(rows: &[Row], k: usize) -> Row
-    ensures { result ≡ slice_index_or rows.now k blank_row }
-{
-    if k < rows.len() { rows[k] } else { blank() }
-}
-
-/// Puts a row in the place of the one of this number, if there is one.
-pub(crate) fn put_row(rows: &mut [Row], k: usize, row: Row)
-    ensures { rows.new ≡ slice_set rows.old k row }
-{
-    if k < rows.len() {
-        rows[k] = row;
+    /// Whether its nexus has its command and not its status.
+    pub(crate) fn is_underway(&self) -> bool
+        ensures { result ≡ is_underway (row_of self.now).stage }
+    {
+        matches!(self.stage, Stage::Commanded(_))
     }
-}
 
-/// Whether the row has a nexus.
-pub(crate) fn is_open(row: &Row) -> bool
-    ensures { result ≡ is_open (plain row.now) }
-{
-    match row.stage {
-        Stage::Empty => false,
-        Stage::Fresh | Stage::Commanded(_) | Stage::Ended(_, _) => true,
-    }
-}
-
-/// The number of the first row that has a nexus.
-pub(crate) fn first_open(rows: &[Row]) -> usize
-    ensures { result ≡ first (λ x. is_open (plain x)) rows.now }
-{
-    for (i, row) in rows.iter().enumerate() {
-        if is_open(row) {
-            return i;
+    /// The unit of its nexus.
+    pub(crate) fn unit(&self) -> Unit
+        ensures { result ≡ record { target = self.now.target; lun = self.now.greeting.lun } }
+    {
+        Unit {
+            target: self.target,
+            lun: self.greeting.lun,
         }
     }
-    rows.len()
-}
 
-/// The number of the first row that has none.
-pub(crate) fn first_empty(rows: &[Row]) -> usize
-    ensures { result ≡ first (λ x. is_empty (plain x)) rows.now }
-{
-    for (k, row) in rows.iter().enumerate() {
-        if !is_open(row) {
-            return k;
+    /// Whether it is that of the nexus which this greeting of the target opens.
+    pub(crate) fn is_named(&self, target: u8, greeting: &Greeting) -> bool
+        ensures { result ≡ is_named (name_of target greeting.now) (row_of self.now) }
+    {
+        self.is_open()
+            && target == self.target
+            && greeting.lun == self.greeting.lun
+            && greeting.tag == self.greeting.tag
+    }
+
+    /// Whether its nexus is of this unit, and was sent an in command.
+    pub(crate) fn reads<S: Shelf>(&self, shelf: &S, unit: Unit) -> bool
+        ensures { result ≡ reads (S.Shelf.model shelf.now) unit.target unit.lun (row_of self.now) }
+    {
+        self.unit() == unit
+            && match &self.stage {
+                Stage::Empty | Stage::Fresh => false,
+                Stage::Commanded(command) | Stage::Ended(command, _) => {
+                    shelf.way(unit, command.as_slice()).0 == Way::In
+                }
+            }
+    }
+
+    /// A fresh nexus takes the row.
+    pub(crate) fn open(&mut self, target: u8, greeting: Greeting)
+        ensures { row_of self.new ≡ taken_by target greeting (row_of self.old) }
+    {
+        self.target = target;
+        self.greeting = greeting;
+        self.stage = Stage::Fresh;
+        self.place = 0;
+        self.saved = 0;
+    }
+
+    /// The row has no nexus any more.
+    pub(crate) fn close(&mut self)
+        ensures { row_of self.new ≡ emptied (row_of self.old) }
+    {
+        self.stage = Stage::Empty;
+    }
+
+    /// Its nexus is sent this command.
+    pub(crate) fn send(&mut self, command: Cdb)
+        ensures { row_of self.new ≡ sent (cdb_bytes command) (row_of self.old) }
+    {
+        self.stage = Stage::Commanded(command);
+    }
+
+    /// An in byte is taken.
+    pub(crate) fn move_on(&mut self)
+        requires { self.old.place < 2048 }
+        ensures { row_of self.new ≡ moved_on (row_of self.old) }
+    {
+        self.place += 1;
+    }
+
+    /// An out byte is given.
+    pub(crate) fn fill(&mut self, byte: u8)
+        requires { self.old.place < 2048 }
+        ensures { row_of self.new ≡ filled byte (row_of self.old) }
+    {
+        self.out[usize::from(self.place)] = byte;
+        self.place += 1;
+    }
+
+    /// The status is taken.
+    pub(crate) fn end(&mut self, status: u8)
+        ensures { row_of self.new ≡ ending status (row_of self.old) }
+    {
+        if let Stage::Commanded(command) | Stage::Ended(command, _) = self.stage {
+            self.stage = Stage::Ended(command, status);
         }
     }
-    rows.len()
-}
 
-/// Whether two nexuses have the same tag, or both none.
-fn same_tag(a: Option<u8>, b: Option<u8>) -> bool
-    ensures { result ≡ same_tag a b }
-{
-    match (a, b) {
-        (None, None) => true,
-        (Some(a), Some(b)) => a == b,
-        _ => false,
+    /// Its place is saved.
+    pub(crate) fn save(&mut self)
+        ensures { row_of self.new ≡ saving (row_of self.old) }
+    {
+        self.saved = self.place;
     }
-}
 
-/// Whether the row is that of the nexus which this greeting of the target opens.
-fn is_named(row: &Row, target: u8, greeting: &Greeting) -> bool
-    ensures { result ≡ is_named (name_of target greeting.now) (plain row.now) }
-{
-    is_open(row)
-        && target == row.target
-        && greeting.lun == row.greeting.lun
-        && same_tag(greeting.tag, row.greeting.tag)
-}
+    /// Its nexus goes back to the saved place.
+    pub(crate) fn go_back(&mut self)
+        ensures { row_of self.new ≡ going_back (row_of self.old) }
+    {
+        self.place = self.saved;
+    }
 
-/// Whether a nexus of this name is open.
-pub(crate) fn any_named(rows: &[Row], target: u8, greeting: &Greeting) -> bool
-    ensures { result ≡ any (λ x. is_named (name_of target greeting.now) (plain x)) rows.now }
-{
-    for row in rows {
-        if is_named(row, target, greeting) {
-            return true;
+    // The bytes that go out with a command of this way and count.
+    fn given(&self, way: Way, count: u16) -> &[u8]
+        requires { count ≤ 2048 }
+        ensures { result.now ≡ outs way count (row_of self.now).bytes }
+    {
+        match way {
+            Way::Still | Way::In => &[],
+            Way::Out => &self.out[..usize::from(count)],
         }
     }
-    false
-}
 
-/// Whether the row's nexus is of this unit, and was sent an in command.
-fn reads<S: Shelf>(shelf: &S, row: &Row, target: u8, lun: u8) -> bool
-    ensures { result ≡ reads (S.Shelf.model shelf.now) target lun (plain row.now) }
-{
-    if row.target != target || row.greeting.lun != lun {
-        return false;
+    /// Has the shelf serve the command with the bytes of the row.
+    pub(crate) fn serve<S: Shelf>(&self, shelf: &mut S, command: &Cdb)
+        ensures { S.Shelf.model shelf.new ≡ served (S.Shelf.model shelf.old) self.now.target self.now.greeting.lun (cdb_bytes command.now) (row_of self.now).bytes }
+    {
+        let unit = self.unit();
+        let bytes = command.as_slice();
+        let (way, count) = shelf.way(unit, bytes);
+        let _ = shelf.finish(unit, bytes, self.given(way, count));
     }
-    match &row.stage {
-        Stage::Empty | Stage::Fresh => false,
-        Stage::Commanded(command) | Stage::Ended(command, _) => {
-            let (way, _) = shelf.way(target, lun, command.as_slice());
-            matches!(way, Way::In)
-        }
-    }
-}
-
-/// Whether an in command of this unit is underway.
-pub(crate) fn any_reader<S: Shelf>(shelf: &S, rows: &[Row], target: u8, lun: u8) -> bool
-    ensures { result ≡ any (λ x. reads (S.Shelf.model shelf.now) target lun (plain x)) rows.now }
-{
-    for row in rows {
-        if reads(shelf, row, target, lun) {
-            return true;
-        }
-    }
-    false
-}
-
-/// Whether the row's nexus has its command and not its status.
-pub(crate) fn is_underway(row: &Row) -> bool
-    ensures { result ≡ is_underway (stage_of row.now.stage) }
-{
-    matches!(row.stage, Stage::Commanded(_))
 }
 
 /// Closes the nexuses of all rows.
 pub(crate) fn clear(rows: &mut [Row])
-    ensures { rows.new ≡ map vacated rows.old }
+    ensures { map row_of rows.new ≡ map emptied (map row_of rows.old) }
 {
     for row in rows.iter_mut() {
-        row.stage = Stage::Empty;
+        row.close();
     }
 }
 

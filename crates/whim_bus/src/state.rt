@@ -1,27 +1,11 @@
 // What the whim bus holds.
-use scsi::{Cdb, Greeting};
+ghost use Rattle.std.specs.Prelude.{◌<◌};
+ghost use Rattle.whim_bus.specs.State.{row_number};
 
-/// How far the nexus of a row has come, if there is one.
-#[derive(Clone, Copy)]
-pub enum Stage {
-    Empty,
-    Fresh,
-    Commanded(Cdb),
-    Ended(Cdb, u8),
-}
-
-/// A row: the nexus's target and greeting, how far it has come, its place in the data and its saved place.
-#[derive(Clone, Copy)]
-pub struct Row {
-    pub(crate) target: u8,
-    pub(crate) greeting: Greeting,
-    pub(crate) stage: Stage,
-    pub(crate) place: u16,
-    pub(crate) saved: u16,
-}
+use crate::rows::Row;
 
 /// What a target that retakes the line has said of its greeting: nothing, the LUN, the LUN and 20h.
-#[derive(Clone, Copy)]
+#[derive(Clone, Copy, PartialEq, Eq, Debug)]
 pub enum Heard {
     Nothing,
     Named,
@@ -29,7 +13,7 @@ pub enum Heard {
 }
 
 /// The line: free, being retaken by the nexus of a row, or held by it.
-#[derive(Clone, Copy)]
+#[derive(Clone, Copy, PartialEq, Eq, Debug)]
 pub enum Line {
     Free,
     Retaken(usize, Heard),
@@ -41,12 +25,11 @@ pub enum Line {
 pub struct WhimBus<S> {
     pub(crate) shelf: S,
     pub(crate) rows: [Row; 16],
-    /// The out bytes of row k, from k × 2,048 on.
-    pub(crate) out: [u8; 32768],
     pub(crate) line: Line,
     pub(crate) whims: [u8; 256],
     /// The number of the next whim byte.
     pub(crate) at: u8,
     /// The whim byte that was drawn last.
     pub(crate) draw: u8,
+    ghost in_rows: { row_number line < 16 },
 }

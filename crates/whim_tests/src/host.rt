@@ -1,8 +1,12 @@
 // A host that keeps several commands open on a disk and a film recorder, and notes all that it is shown.
+ghost use Rattle.std.specs.Prelude.{◌<◌, ◌≤◌};
+
+use crate::adler::Adler;
 use bus::{Bus, Selection, Shown};
 use scsi::Greeting;
 
 /// What the host asks for, in turn and round and round: target, LUN, leave, tag, command.
+#[derive(Clone, Copy)]
 struct Order(u8, u8, bool, Option<u8>, [u8; 6]);
 
 const ORDERS: [Order; 7] = [
@@ -15,32 +19,26 @@ const ORDERS: [Order; 7] = [
     Order(5, 0, true, None, [0x00, 0, 0, 0, 0, 0]),
 ];
 
-/// The next order, the next out byte, and the two sums of the Adler-32 of what was shown.
+/// The number of the next order, the next out byte, and the checksum of what was shown.
 #[derive(Drop)]
 pub(crate) struct Host {
     order: usize,
     given: u8,
-    a: u32,
-    b: u32,
+    seen: Adler,
+    ghost in_turn: { (order < 7) × (given ≤ 250) },
 }
 
 impl Host {
-    pub(crate) fn new() -> Host {
+    pub(crate) fn new() -> Self {
         Host {
             order: 0,
             given: 0,
-            a: 1,
-            b: 0,
+            seen: Adler::new(),
         }
     }
 
     pub(crate) fn checksum(&self) -> u32 {
-        (self.b % 65_536) * 65_536 + self.a % 65_536
-    }
-
-    fn note(&mut self, byte: u8) {
-        self.a = (self.a % 65_521 + u32::from(byte)) % 65_521;
-        self.b = (self.b % 65_521 + self.a) % 65_521;
+        self.seen.sum()
     }
 
     /// Does what is due at this turn, and notes what is shown then.
@@ -58,9 +56,16 @@ impl Host {
         } else {
             self.answer(bus, shown);
         }
-        let (kind, byte) = numbers(bus.look());
-        self.note(kind);
-        self.note(byte);
+        self.note(bus.look());
+    }
+
+    // Notes the kind's number, and the byte or target that goes with it.
+    fn note(&mut self, shown: Shown) {
+        self.seen.add(shown.kind());
+        self.seen.add(match shown {
+            Shown::Reselect(target) => target,
+            _ => shown.byte().unwrap_or(0),
+        });
     }
 
     fn answer<B: Bus>(&mut self, bus: &mut B, shown: Shown) {
@@ -71,7 +76,7 @@ impl Host {
             }
             Shown::DataOut => {
                 let _ = bus.give(self.given);
-                self.given = if self.given >= 250 { 0 } else { self.given + 1 };
+                self.given = (self.given + 1) % 251;
             }
             Shown::Pause => bus.wait(),
             _ => {
@@ -81,37 +86,16 @@ impl Host {
     }
 
     fn select<B: Bus>(&mut self, bus: &mut B) {
-        let Order(target, lun, leave, tag, command) = &ORDERS[self.order % 7];
-        let greeting = Greeting {
-            lun: *lun,
-            leave: *leave,
-            tag: *tag,
-        };
-        match bus.select(*target, greeting.bytes().as_slice()) {
+        let Order(target, lun, leave, tag, command) = ORDERS[self.order];
+        let greeting = Greeting { lun, leave, tag };
+        match bus.select(target, greeting.bytes().as_slice()) {
             Ok(Selection::Lost) => return,
             Ok(Selection::Absent) => {}
             Ok(Selection::Selected) => {
-                let _ = bus.command(command);
+                let _ = bus.command(&command);
             }
             Err(_) => bus.wait(),
         }
-        self.order = (self.order % 7 + 1) % 7;
-    }
-}
-
-// The kind's number, and the byte or target that goes with it.
-fn numbers(shown: Shown) -> (u8, u8) {
-    match shown {
-        Shown::DataOut => (0, 0),
-        Shown::DataIn(byte) => (1, byte),
-        Shown::Command => (2, 0),
-        Shown::Status(byte) => (3, byte),
-        Shown::Reserved4 => (4, 0),
-        Shown::Reserved5 => (5, 0),
-        Shown::MessageOut => (6, 0),
-        Shown::MessageIn(byte) => (7, byte),
-        Shown::Free => (8, 0),
-        Shown::Reselect(target) => (9, target),
-        Shown::Pause => (10, 0),
+        self.order = (self.order + 1) % ORDERS.len();
     }
 }

@@ -1,5 +1,6 @@
 // The whim bus on many tables of whim bytes, beside an independent model of it.
 #![tactic(auto)]
 
+mod adler;
 mod host;
 mod tables;

@@ -59,19 +59,19 @@ fn table(seed: u32) -> [u8; 256] {
 
 #[test]
 fn shows_what_the_model_shows(rt: HostRuntime) -> Result<(), Fail> {
-    for row in &ROWS {
+    for &Row(seed, checksum, film) in &ROWS {
         let shelf = Pair {
             first: Disk::new(rt.alloc(), 0, 8)?,
             second: Recorder::new(rt.alloc(), 3, 1024)?,
         };
-        let mut bus = WhimBus::new(shelf, table(row.0));
+        let mut bus = WhimBus::new(shelf, table(seed));
         let mut host = Host::new();
         for turn in 0..24_000 {
             host.turn(&mut bus, turn);
         }
         assert_eq!(rt;
-            (row.0, host.checksum(), bus.shelf().second.film().len()),
-            (row.0, row.1, row.2)
+            (seed, host.checksum(), bus.shelf().second.film().len()),
+            (seed, checksum, film)
         );
     }
     Ok(())

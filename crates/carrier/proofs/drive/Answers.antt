@@ -1,31 +1,17 @@
-use Rattle.std.proofs.Common.{refl, ◌∙◌, subst, arith}
-use Rattle.carrier.specs.Underway.{ByEnd}
-use Rattle.carrier.proofs.Turning.{still_unchanged}
+use Rattle.std.proofs.Common.{rules}
 use Rattle.carrier.proofs.drive.Goals as goal
 
-pub loop-init : goal.loop-init
-loop-init g c = (λ k h. refl, refl, λ m n h. h)
+pub returns-in_err-turn-clause-ends : goal.returns-in_err-turn-clause-ends
+returns-in_err-turn-clause-ends g c m n h =
+    let went = c.in_err-turn.ensures.goes m n (c.loop.invariant.1 m n h) in
+    search rules
 
-pub loop-preserved : goal.loop-preserved
-loop-preserved g c =
-    let inv = c.loop.invariant in
-    let further = c.in-Ok.ensures in (
-      λ k h. further.kept k h ∙ inv.0 k (omega (arith, further.further)),
-      c.if-so_far.false,
-      λ m n h. subst (ByEnd m n _ _ _ _ _) c.if-so_far.false (further.goes m n inv.1 (inv.2 m n h)),
-    )
+pub returns-then-is_break-clause-ends : goal.returns-then-is_break-clause-ends
+returns-then-is_break-clause-ends g c m n h =
+    let went = c.in_ok-turn.ensures.goes m n (c.loop.invariant.1 m n h) in
+    search rules
 
-pub returns-in-Err : goal.returns-in-Err
-returns-in-Err g c = record { kept = tt; ends = λ m n h. c.in-Err.ensures.goes m n c.loop.invariant.1 (c.loop.invariant.2 m n h) }
-
-pub returns-then-so_far : goal.returns-then-so_far
-returns-then-so_far g c =
-    let inv = c.loop.invariant in
-    let further = c.in-Ok.ensures in
-    record {
-      kept = λ k h. further.kept k h ∙ inv.0 k (omega (arith, further.further));
-      ends = λ m n h. subst (ByEnd m n _ _ _ _ _) c.if-so_far.true (further.goes m n inv.1 (inv.2 m n h));
-    }
-
-pub returns : goal.returns
-returns g c = record { kept = tt; ends = λ m n h. still_unchanged m n _ _ _ _ _ (c.loop.invariant.2 m n h) }
+pub returns-clause-ends : goal.returns-clause-ends
+returns-clause-ends g c m n h =
+    let went = c.loop.invariant.1 m n h in
+    search rules

@@ -1,4 +1,3 @@
-use Rattle.std.proofs.Common.{◌≡◌, false}
 use Rattle.shelf.specs.Model.{Model}
 use Rattle.bus.specs.State.{Name}
 use Rattle.carrier.specs.Carrying.{KeptFrom}
@@ -7,7 +6,6 @@ use Rattle.carrier.proofs.drive.Given as goal
 
 abbrev pub invariant-loop : goal.invariant-loop
 invariant-loop g l =
-    KeptFrom l.so_far.moved l.initial.into l.into
-    × (l.so_far.complete ≡ false)
-    × ((m : Model) (n : Name) → Going m n l.command l.out begun l.initial.into (g.B.Bus.means l.initial.bus)
-    → Going m n l.command l.out l.so_far l.into (g.B.Bus.means l.bus))
+    KeptFrom l.carried.moved l.initial.into l.into
+    × ((m : Model) (n : Name) → Going m n l.sent.command.now l.sent.out.now begun l.initial.into (g.B.Bus.means l.initial.bus)
+    → Going m n l.sent.command.now l.sent.out.now l.carried l.into (g.B.Bus.means l.bus))

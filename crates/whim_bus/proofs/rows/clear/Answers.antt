@@ -1,10 +1,8 @@
-use Rattle.std.proofs.Common.{◌∙◌}
-use Rattle.whim_bus.specs.View.{blank_row, vacated}
-use Rattle.whim_bus.proofs.Scans.{swept_step, swept_all}
+use Rattle.whim_bus.proofs.Clearing.{clear_more, clear_all}
 use Rattle.whim_bus.proofs.rows.clear.Goals as goal
 
 pub loop-row-preserved : goal.loop-row-preserved
-loop-row-preserved c = swept_step vacated c.loop-row.row-index c.args.rows.now c.loop-row.rows blank_row c.loop-row-test.true c.loop-row.invariant
+loop-row-preserved c = clear_more c.args.rows.now c.loop-row.rows _ _ _ c.loop-row-test.true c.loop-row.auto.rows c.loop-row.invariant c.close.ensures
 
 pub returns : goal.returns
-returns c = c.loop-row.invariant ∙ swept_all vacated c.loop-row.row-index c.args.rows.now c.loop-row-test.false
+returns c = clear_all c.args.rows.now c.loop-row.rows _ c.loop-row-test.false c.loop-row.invariant

@@ -1,13 +1,8 @@
-use Rattle.std.proofs.Common.{sym, ap}
-use Rattle.whim_bus.specs.Rows.{Stage, at_stage}
+use Rattle.std.proofs.Common.{arith}
 use Rattle.whim_bus.specs.Text.{ending}
-use Rattle.whim_bus.specs.View.{row_of, whim_of}
-use Rattle.whim_bus.proofs.Changing.{change_view, on_held}
+use Rattle.whim_bus.proofs.Changing.{held_changed}
 use Rattle.whim_bus.proofs.state.WhimBus.end.Goals as goal
 
 pub returns-in-Held : goal.returns-in-Held
 returns-in-Held g c =
-    let s = c.args.self.now in
-    on_held (ending c.args.status) s.line c.in-Held.k (whim_of (g.S.Shelf.model s.shelf) s.rows s.out s.line s.whims s.at s.draw) _ c.in-Held.is
-    (change_view (g.S.Shelf.model s.shelf) s.rows s.out s.line s.whims s.at s.draw c.in-Held.k (ending c.args.status) c.row_at-row.result _ c.put_row.new.rows c.row_at-row.ensures c.put_row.ensures
-    (λ b. ap (λ (t : Stage). at_stage t (row_of b c.row_at-row.result)) (sym c.ended-row.ensures)))
+    held_changed g.S.Shelf.model c.args.self.now (omega arith) (ending c.args.status) c.in-Held.k _ _ c.end.ensures c.in-Held.is
