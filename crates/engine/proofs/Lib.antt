@@ -1,5 +1,7 @@
+pub mod Numbers
 pub mod Whole
 pub mod Kept
+pub mod Scans
 pub mod Submits
 pub mod Rows
 pub mod Queue

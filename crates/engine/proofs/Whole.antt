@@ -1,6 +1,7 @@
 -- The engine's fields are whole exactly where their chains are linked and the engine that they stand for is sound. Assumes nothing.
 use Rattle.std.proofs.Common.{◌≡◌, ℕ, zero, suc, ◌≤◌, Bool, true, false, cond, not, eqb, List, [], ◌∷◌, length, sym, refl, ap, ◌∙◌, subst, arith}
 use Rattle.std.proofs.lemmas.Bool.{and_parts, and_from, not-true, eqb-true, eq-eqb}
+use Rattle.arrayvec.specs.ArrayVec.{ArrayVec}
 use Rattle.slots.specs.declared.slot.State.{State}
 use Rattle.slots.specs.declared.slot.State.TheVariants.{Free, Waiting, Connected, Away, Finished}
 use Rattle.slots.specs.declared.slot.Slots.{Slots}
@@ -18,7 +19,7 @@ use Rattle.engine.specs.declared.state.Engine.{Engine as Kept}
 
 -- all that is always true of the fields
 abbrev pub Whole : Slots → Type 0
-Whole s = record { ended : Ended s; free : FreeChain s; waiting : WaitingChain s; line : LineKept s }
+Whole s = record { long : length s.slots ≡ 16; ended : Ended s; free : FreeChain s; waiting : WaitingChain s; line : LineKept s }
 
 ---- chains
 
@@ -63,8 +64,8 @@ connected_is (Finished o) h = wrong false h refl
 pub holding_so : (l : Line) (cs : List ℕ) (f : ℕ → Entry) → held_right l f ≡ true → (k : ℕ) (bs : List ℕ) → line_of l cs ≡ held k bs → (f k).state ≡ Connected
 holding_so Idle cs f h k bs q = absurd (idle_unheld k bs q)
 holding_so (Greeted t) cs f h k bs q = absurd (greeted_unheld t k bs q)
-holding_so (Named t l) cs f h k bs q = absurd (named_unheld t l k bs q)
-holding_so (TagDue t l) cs f h k bs q = absurd (tag_due_unheld t l k bs q)
+holding_so (Named u) cs f h k bs q = absurd (named_unheld u.target u.lun k bs q)
+holding_so (TagDue u) cs f h k bs q = absurd (tag_due_unheld u.target u.lun k bs q)
 holding_so (Held j) cs f h k bs q = go (numbered j) q
   where
     go : (t : Bool) → cond t (held j cs) idle ≡ held k bs → (f k).state ≡ Connected
@@ -72,12 +73,16 @@ holding_so (Held j) cs f h k bs q = go (numbered j) q
     go false q = absurd (idle_unheld k bs q)
 
 -- a slot in use has a number
-used_numbered : (s : Slots) (k : ℕ) → in_use ((view s).slots k).state ≡ true → numbered k ≡ true
+pub used_numbered : (s : Slots) (k : ℕ) → in_use ((view s).slots k).state ≡ true → numbered k ≡ true
 used_numbered s k u = go (numbered k) u
   where
     go : (t : Bool) → in_use (cond t (entry_of (slot_at s.slots k)) (entry_of no_slot)).state ≡ true → t ≡ true
     go true u = refl
     go false u = wrong false u refl
+
+-- no message has begun
+pub no_message : (b : ArrayVec ℕ) → b.items ≡ [] → length b.items ≤ 257
+no_message b z = rw z (omega arith)
 
 ---- both ways
 
@@ -97,13 +102,18 @@ sound_of e = record {
   holding = holding_so e.state.line _ (view e.state).slots e.line.0;
 }
 
+-- the slot that holds the line
+pub holder_numbered : (e : Kept) (k : ℕ) → e.state.line ≡ Held k → numbered k ≡ true
+holder_numbered e k q = used_numbered e.state k (ap in_use (connected_is _ (sym (ap (λ (l : Line). held_right l (view e.state).slots) q) ∙ e.line.0)))
+
 -- fields that stand for a sound engine
-pub whole_by : (s : Slots) (e : Engine) → view s ≡ e → Sound e → Linked s → held_right s.line e.slots ≡ true → s.heard ≤ 257 → length s.begun ≡ 258 → Whole s
-whole_by s e q o l h n m = record {
+pub whole_by : (s : Slots) (e : Engine) → view s ≡ e → Sound e → Linked s → length s.slots ≡ 16 → held_right s.line e.slots ≡ true → length s.begun.items ≤ 257 → Whole s
+whole_by s e q o l g h n = record {
+  long = g;
   ended = (links_ends 16 (nexts s.slots) s.free l.free, links_ends 16 (nexts s.slots) s.waiting l.waiting);
   free = (p.free_chain, so_once (view s).free p.free_once);
   waiting = (p.waiting_chain, so_once (view s).waiting p.waiting_once);
-  line = (ap (λ (e : Engine). held_right s.line e.slots) q ∙ h, n, m);
+  line = (ap (λ (e : Engine). held_right s.line e.slots) q ∙ h, n);
 }
   where
     p : Sound (view s)
@@ -111,6 +121,6 @@ whole_by s e q o l h n m = record {
 
 ---- an engine just made
 
-pub whole_fresh : (s : Slots) → s.slots ≡ fresh_slots → s.free ≡ 1 → s.waiting ≡ 0 → s.line ≡ Idle → s.heard ≡ 0 → length s.begun ≡ 258 → Whole s
-whole_fresh s q f w l h m =
-    whole_by s (view s) refl (made_sound (view s) (made_fresh s q f w l)) (linked_fresh s q f w) (ap (λ (k : Line). held_right k (view s).slots) l) (omega arith) m
+pub whole_fresh : (s : Slots) → s.slots ≡ fresh_slots → s.free ≡ 1 → s.waiting ≡ 0 → s.line ≡ Idle → s.begun.items ≡ [] → Whole s
+whole_fresh s q f w l b =
+    whole_by s (view s) refl (made_sound (view s) (made_fresh s q f w l)) (linked_fresh s q f w) (ap length q) (ap (λ (k : Line). held_right k (view s).slots) l) (no_message s.begun b)

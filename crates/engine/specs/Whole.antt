@@ -29,8 +29,8 @@ is_connected (Finished o) = false
 abbrev pub held_right : Line → (ℕ → Entry) → Bool
 held_right Idle f = true
 held_right (Greeted t) f = true
-held_right (Named t l) f = true
-held_right (TagDue t l) f = true
+held_right (Named u) f = true
+held_right (TagDue u) f = true
 held_right (Held k) f = is_connected (f k).state
 
 -- each chain of next numbers ends at zero
@@ -47,4 +47,4 @@ WaitingChain s = ((k : ℕ) → stands_on k (view s).waiting ≡ is_waiting ((vi
 
 -- the slot that holds the line is connected, and a begun message is shorter than the longest one, for which there is room
 abbrev pub LineKept : Slots → Type 0
-LineKept s = (held_right s.line (view s).slots ≡ true) × (s.heard ≤ 257) × (length s.begun ≡ 258)
+LineKept s = (held_right s.line (view s).slots ≡ true) × (length s.begun.items ≤ 257)

@@ -1,58 +1,59 @@
 // The changes of the engine that leave it whole; everything else is built from them.
-ghost use Rattle.std.specs.Prelude.{◌≡◌, ◌<◌, true, false, [], ◌∷◌, ◌++◌, map, take, ◌≢◌};
-ghost use Rattle.table.specs.Engine.{held, idle, in_use, is_waiting, is_open, set_slot, unlink_slot, set_line, numbered, is_finished};
+ghost use Rattle.std.specs.Prelude.{◌≡◌, ◌≤◌, Bool, true, false, [], map, length};
+ghost use Rattle.table.specs.Engine.{held as holds, idle, in_use, is_waiting, is_open, set_slot, unlink_slot, set_line, with_state, stands_on, is_finished};
 ghost use Rattle.table.specs.Table.{cleared};
 ghost use Rattle.table.specs.Calls.{just_accepted, taken_in, put_back, open_or_waiting, reset_engine};
-ghost use Rattle.table.specs.View.{view, entry_of, command_of, line_of, reset_slot};
-ghost use Rattle.engine.specs.Fields.{OpenAt, ConnectedAt, WaitingAt, GoesOn, unheld};
+ghost use Rattle.table.specs.View.{view, slot_at, entry_of, command_of, line_of, reset_slot};
+ghost use Rattle.engine.specs.Fields.{GoesOn, Decides, unheld};
 
-use crate::chains::{before, is_numbered};
+use crate::chains::before;
+use crate::held::Held;
 use crate::state::Engine;
-use slots::{Command, Line, Outcome, Slot, State};
+use arrayvec::ArrayVec;
+use slots::{Command, Line, Outcome, Slot, SlotNumber, State};
 
 impl Engine {
     // Slot `k` is changed, and holds the line with no begun message.
-    pub(crate) fn keep(&mut self, k: u8, slot: Slot)
-        requires open_at { OpenAt self.old.state k slot }
+    pub(crate) fn keep(&mut self, k: SlotNumber, slot: Slot)
+        requires open { is_open (slot_at self.old.state.slots k).state ≡ true }
+        requires same_next { slot.next ≡ (slot_at self.old.state.slots k).next }
         requires connected { slot.state ≡ State.Connected }
-        ensures { view self.new.state ≡ set_slot k (entry_of slot) (held k []) (view self.old.state) }
+        ensures { view self.new.state ≡ set_slot k (entry_of slot) (holds k []) (view self.old.state) }
     {
-        self.state.slots[(k - 1) as usize] = slot;
+        self.state.slots[k.place()] = slot;
         self.state.line = Line::Held(k);
-        self.state.heard = 0;
+        self.state.begun.clear();
     }
 
-    // Slot `k` is changed, and the line is idle.
-    pub(crate) fn leave(&mut self, k: u8, slot: Slot)
-        requires open_at { OpenAt self.old.state k slot }
-        requires used { in_use slot.state ≡ true }
-        requires not_waiting { is_waiting slot.state ≡ false }
-        ensures { view self.new.state ≡ set_slot k (entry_of slot) idle (view self.old.state) }
+    // The slot goes to this state, and the line is idle.
+    pub(crate) fn leave(&mut self, held: &Held, state: State)
+        requires as_kept { slot_at self.old.state.slots held.now.k ≡ held.now.slot }
+        requires used { in_use state ≡ true }
+        requires not_waiting { is_waiting state ≡ false }
+        ensures { view self.new.state ≡ set_slot held.now.k (with_state state (entry_of held.now.slot)) idle (view self.old.state) }
     {
-        self.state.slots[(k - 1) as usize] = slot;
+        self.state.slots[held.k.place()] = Slot { state, ..held.slot };
         self.state.line = Line::Idle;
-        self.state.heard = 0;
+        self.state.begun.clear();
     }
 
-    // Slot `k` holds the line with no begun message.
-    pub(crate) fn hold(&mut self, k: u8)
-        requires { ConnectedAt self.old.state k }
-        ensures { view self.new.state ≡ set_line (held k []) (view self.old.state) }
+    // The slot holds the line with no begun message.
+    pub(crate) fn hold(&mut self, held: &Held)
+        requires { slot_at self.old.state.slots held.now.k ≡ held.now.slot }
+        ensures { view self.new.state ≡ set_line (holds held.now.k []) (view self.old.state) }
     {
-        self.state.line = Line::Held(k);
-        self.state.heard = 0;
+        self.state.line = Line::Held(held.k);
+        self.state.begun.clear();
     }
 
-    // Slot `k` holds the line, and one byte more of a message has begun.
-    pub(crate) fn hear_more(&mut self, k: u8, byte: u8)
-        requires connected_at { ConnectedAt self.old.state k }
-        requires room { self.old.state.heard < 257 }
-        ensures { view self.new.state ≡ set_line (held k (take self.old.state.heard self.old.state.begun ++ byte ∷ [])) (view self.old.state) }
+    // The slot holds the line, and this message has begun.
+    pub(crate) fn hear_more(&mut self, held: &Held, message: ArrayVec<u8, 258>)
+        requires as_kept { slot_at self.old.state.slots held.now.k ≡ held.now.slot }
+        requires room { length message.items ≤ 257 }
+        ensures { view self.new.state ≡ set_line (holds held.now.k message.items) (view self.old.state) }
     {
-        let heard = self.state.heard;
-        self.state.begun[heard as usize] = byte;
-        self.state.heard = heard + 1;
-        self.state.line = Line::Held(k);
+        self.state.line = Line::Held(held.k);
+        self.state.begun = message;
     }
 
     // The line is held by no slot.
@@ -61,124 +62,74 @@ impl Engine {
         ensures { view self.new.state ≡ set_line (line_of line []) (view self.old.state) }
     {
         self.state.line = line;
-        self.state.heard = 0;
+        self.state.begun.clear();
     }
 
     // All connected and away commands are finished RESET, and the line is idle.
     pub(crate) fn clear(&mut self)
         ensures { view self.new.state ≡ cleared (view self.old.state) }
     {
-        reset_open(&mut self.state.slots);
+        reset_where(&mut self.state.slots, is_open);
         self.state.line = Line::Idle;
-        self.state.heard = 0;
+        self.state.begun.clear();
     }
 
     // So are waiting ones.
     pub(crate) fn clear_all(&mut self)
         ensures { view self.new.state ≡ reset_engine (view self.old.state) }
     {
-        reset_unfinished(&mut self.state.slots);
+        reset_where(&mut self.state.slots, is_unfinished);
         self.state.waiting = 0;
         self.state.line = Line::Idle;
-        self.state.heard = 0;
+        self.state.begun.clear();
     }
 
     // A finished slot goes to the free head.
-    pub(crate) fn put_back(&mut self, k: u8, slot: Slot)
-        requires is_slot { numbered k ≡ true }
+    pub(crate) fn put_back(&mut self, k: SlotNumber, slot: Slot)
         requires as_kept { entry_of slot ≡ (view self.old.state).slots k }
         requires finished { is_finished slot.state ≡ true }
         ensures { view self.new.state ≡ put_back k (view self.old.state) }
     {
-        let mut changed = slot;
-        changed.state = State::Free;
-        changed.next = self.state.free;
-        self.state.slots[(k - 1) as usize] = changed;
-        self.state.free = k;
+        self.state.slots[k.place()] = Slot {
+            next: self.state.free,
+            state: State::Free,
+            ..slot
+        };
+        self.state.free = k.get();
     }
 
     // The free head takes this command, and goes to the end of the waiting chain.
-    pub(crate) fn enqueue(&mut self, k: u8, command: Command)
+    pub(crate) fn enqueue(&mut self, k: SlotNumber, command: Command)
         requires free_head { self.old.state.free ≡ k }
-        requires is_slot { numbered k ≡ true }
         ensures { view self.new.state ≡ taken_in (command_of command) (view self.old.state).free (view self.old.state) }
     {
-        let head = self.state.waiting;
-        if is_numbered(head) {
-            self.append(k, head, command);
+        self.state.free = self.state.slots[k.place()].next;
+        if let Some(head) = SlotNumber::new(self.state.waiting) {
+            let last = before(&self.state.slots, head, k);
+            self.state.slots[last.place()].next = k.get();
         } else {
-            self.start_queue(k, command);
+            self.state.waiting = k.get();
         }
+        self.state.slots[k.place()] = accepted(command);
     }
 
     // Slot `k` leaves the waiting chain, and is changed, and the line.
-    pub(crate) fn unqueue(&mut self, k: u8, slot: Slot, line: Line)
-        requires waiting_at { WaitingAt self.old.state k }
+    pub(crate) fn unqueue(&mut self, k: SlotNumber, slot: Slot, line: Line)
+        requires waits { stands_on k (view self.old.state).waiting ≡ true }
         requires goes_on { GoesOn k slot line }
         ensures { view self.new.state ≡ unlink_slot k (entry_of slot) (line_of line []) (view self.old.state) }
     {
-        let mut changed = slot;
-        changed.next = 0;
-        let head = self.state.waiting;
-        if head == k {
-            self.unqueue_head(k, changed, line);
-        } else {
-            self.unqueue_later(head, k, changed, line);
+        let next = self.state.slots[k.place()].next;
+        match SlotNumber::new(self.state.waiting) {
+            Some(head) if head != k => {
+                let at = before(&self.state.slots, head, k);
+                self.state.slots[at.place()].next = next;
+            }
+            _ => self.state.waiting = next,
         }
-    }
-
-    fn unqueue_head(&mut self, k: u8, slot: Slot, line: Line)
-        requires waiting_at { WaitingAt self.old.state k }
-        requires goes_on { GoesOn k slot line }
-        requires waiting_head { self.old.state.waiting ≡ k }
-        ensures { view self.new.state ≡ unlink_slot k (entry_of slot) (line_of line []) (view self.old.state) }
-    {
-        self.state.waiting = self.state.slots[(k - 1) as usize].next;
-        self.state.slots[(k - 1) as usize] = slot;
+        self.state.slots[k.place()] = Slot { next: 0, ..slot };
         self.state.line = line;
-        self.state.heard = 0;
-    }
-
-    fn unqueue_later(&mut self, head: u8, k: u8, slot: Slot, line: Line)
-        requires waiting_at { WaitingAt self.old.state k }
-        requires goes_on { GoesOn k slot line }
-        requires waiting_head { self.old.state.waiting ≡ head }
-        requires later { head ≢ k }
-        ensures { view self.new.state ≡ unlink_slot k (entry_of slot) (line_of line []) (view self.old.state) }
-    {
-        let at = before(&self.state.slots, head, k);
-        let mut prior = self.state.slots[(at - 1) as usize];
-        prior.next = self.state.slots[(k - 1) as usize].next;
-        self.state.slots[(at - 1) as usize] = prior;
-        self.state.slots[(k - 1) as usize] = slot;
-        self.state.line = line;
-        self.state.heard = 0;
-    }
-
-    fn start_queue(&mut self, k: u8, command: Command)
-        requires free_head { self.old.state.free ≡ k }
-        requires is_slot { numbered k ≡ true }
-        requires none_waits { numbered self.old.state.waiting ≡ false }
-        ensures { view self.new.state ≡ taken_in (command_of command) (view self.old.state).free (view self.old.state) }
-    {
-        self.state.free = self.state.slots[(k - 1) as usize].next;
-        self.state.slots[(k - 1) as usize] = accepted(command);
-        self.state.waiting = k;
-    }
-
-    fn append(&mut self, k: u8, head: u8, command: Command)
-        requires free_head { self.old.state.free ≡ k }
-        requires is_slot { numbered k ≡ true }
-        requires waiting_head { self.old.state.waiting ≡ head }
-        requires some_wait { numbered head ≡ true }
-        ensures { view self.new.state ≡ taken_in (command_of command) (view self.old.state).free (view self.old.state) }
-    {
-        let last = before(&self.state.slots, head, k);
-        let mut end = self.state.slots[(last - 1) as usize];
-        end.next = k;
-        self.state.free = self.state.slots[(k - 1) as usize].next;
-        self.state.slots[(k - 1) as usize] = accepted(command);
-        self.state.slots[(last - 1) as usize] = end;
+        self.state.begun.clear();
     }
 }
 
@@ -198,46 +149,28 @@ fn accepted(command: Command) -> Slot
     }
 }
 
-// The slot, finished RESET if it was connected or away.
-fn reset_slot(slot: Slot) -> Slot
-    ensures { result ≡ reset_slot is_open slot }
+// Whether it is connected or away.
+pub(crate) fn is_open(state: State) -> bool
+    ensures { result ≡ is_open state }
 {
-    let mut changed = slot;
-    match slot.state {
-        State::Connected | State::Away => {
-            changed.state = State::Finished(Outcome::Reset);
+    matches!(state, State::Connected | State::Away)
+}
+
+// Whether it has a command that is not finished.
+fn is_unfinished(state: State) -> bool
+    ensures { result ≡ open_or_waiting state }
+{
+    is_open(state) || matches!(state, State::Waiting)
+}
+
+// The slots are finished RESET whose state passes the test.
+fn reset_where<F: Fn(State) -> bool>(slots: &mut [Slot; 16], passes: F)
+    requires { F.IsAlwaysCallable passes }
+    ensures { (p : State → Bool) → Decides (F.post passes) p → slots.new ≡ map (reset_slot p) slots.old }
+{
+    for slot in slots.iter_mut() {
+        if passes(slot.state) {
+            slot.state = State::Finished(Outcome::Reset);
         }
-        _ => {}
-    }
-    changed
-}
-
-fn reset_open(slots: &mut [Slot; 16])
-    ensures { slots.new ≡ map (reset_slot is_open) slots.old }
-{
-    for i in 0..16usize {
-        slots[i] = reset_slot(slots[i]);
-    }
-}
-
-// The slot, finished RESET if it has a command that is not finished.
-fn reset_command(slot: Slot) -> Slot
-    ensures { result ≡ reset_slot open_or_waiting slot }
-{
-    let mut changed = slot;
-    match slot.state {
-        State::Waiting | State::Connected | State::Away => {
-            changed.state = State::Finished(Outcome::Reset);
-        }
-        State::Free | State::Finished(_) => {}
-    }
-    changed
-}
-
-fn reset_unfinished(slots: &mut [Slot; 16])
-    ensures { slots.new ≡ map (reset_slot open_or_waiting) slots.old }
-{
-    for i in 0..16usize {
-        slots[i] = reset_command(slots[i]);
     }
 }

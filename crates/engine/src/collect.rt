@@ -4,9 +4,7 @@ ghost use Rattle.table.specs.Calls.{collect_answer, collect_engine, Event};
 ghost use Rattle.table.specs.View.{view};
 ghost use Rattle.engine.specs.Answers.{collected_told, GivenBack, RefusedChangesNothing};
 ghost use Rattle.engine.specs.Lawfully.{LawfulBeside};
-ghost use Rattle.slots.specs.Numbers.{byte_number};
 
-use crate::chains::is_numbered;
 use crate::state::Engine;
 use crate::ticket::Ticket;
 use slots::{Collected, Refusal, State};
@@ -20,38 +18,16 @@ impl Engine {
         ensures lawful { LawfulBeside (Event.collect ticket.slot (collected_told result)) (view self.old.state) (view self.new.state) }
         ensures refused { RefusedChangesNothing result self.old.state self.new.state }
     {
-        self.hand_back(ticket)
-    }
-
-    fn hand_back(&mut self, ticket: Ticket) -> Result<Collected, (Refusal, Ticket)>
-        ensures answer { collected_told result ≡ collect_answer ((view self.old.state).slots ticket.slot).state ((view self.old.state).slots ticket.slot) }
-        ensures ticket { GivenBack result ticket }
-        ensures after { view self.new.state ≡ collect_engine ((view self.old.state).slots ticket.slot).state ticket.slot (view self.old.state) }
-        ensures refused { RefusedChangesNothing result self.old.state self.new.state }
-    {
         let Ticket { slot: k } = ticket;
-        if !is_numbered(k) {
-            return Err((Refusal::Unfinished, Ticket { slot: k }));
-        }
-        let slot = self.state.slots[(k - 1) as usize];
+        let slot = self.slot(k);
         let State::Finished(outcome) = slot.state else {
             return Err((Refusal::Unfinished, Ticket { slot: k }));
         };
         self.put_back(k, slot);
         Ok(Collected {
             outcome,
-            status: status_number(slot.status),
+            status: slot.status,
             count: slot.current,
         })
-    }
-}
-
-// A status as a number, 256 for none.
-fn status_number(status: Option<u8>) -> u16
-    ensures { result ≡ byte_number status }
-{
-    match status {
-        None => 256,
-        Some(byte) => u16::from(byte),
     }
 }

@@ -1,128 +1,104 @@
 // Messages of the target while a slot holds the line.
-ghost use Rattle.std.specs.Prelude.{◌≡◌, ℕ, ◌<◌, ◌≤◌, List, [], ◌∷◌, ◌++◌, length, take, Some, None, ◌≢◌};
+ghost use Rattle.std.specs.Prelude.{◌≡◌, ℕ, ◌≤◌, List, [], ◌∷◌, ◌++◌, length, Some, None, ◌≢◌};
 ghost use Rattle.scsi.specs.Messages.{message_of};
 ghost use Rattle.scsi.specs.Borrowed.{meant};
 ghost use Rattle.table.specs.Script.{Plays};
 ghost use Rattle.table.specs.Table.{heard_of, rejecting, by_heard, message_by};
-ghost use Rattle.table.specs.View.{view, entry_of};
-ghost use Rattle.engine.specs.Fields.{Holds, ConnectedAt};
+ghost use Rattle.table.specs.View.{view, slot_at, entry_of};
 
+use crate::held::Held;
 use crate::state::Engine;
+use arrayvec::ArrayVec;
 use bus::Bus;
-use scsi::{Message, read};
+use scsi::{Message, Word, read};
 use slots::{Answer, Heard, Outcome, Slot, State};
 
 impl Engine {
     // A message byte, which is taken; the message acts at its last byte.
-    pub(crate) fn message_byte<B: Bus>(
-        &mut self,
-        bus: &mut B,
-        k: u8,
-        slot: Slot,
-        byte: u8,
-    ) -> Answer
-        requires { Holds self.old.state k slot }
-        ensures { (m : List ℕ) → Plays (λ b. (B.Bus.means b).shown) B.Bus.did (message_by (view self.old.state) k (entry_of slot) (take self.old.state.heard self.old.state.begun ++ byte ∷ [])) bus.old m result (view self.new.state) bus.new m }
+    pub(crate) fn message_byte<B: Bus>(&mut self, bus: &mut B, held: &Held, byte: u8) -> Answer
+        requires { slot_at self.old.state.slots held.now.k ≡ held.now.slot }
+        ensures { (m : List ℕ) → Plays (λ b. (B.Bus.means b).shown) B.Bus.did (message_by (view self.old.state) held.now.k (entry_of held.now.slot) (self.old.state.begun.items ++ byte ∷ [])) bus.old m result (view self.new.state) bus.new m }
     {
-        let heard = self.heard(byte);
         let _ = bus.take();
-        match slot.status {
-            None => self.before_status(bus, k, slot, byte, heard),
-            Some(_) => self.after_status(bus, k, slot, byte, heard),
+        let mut message = self.state.begun.take();
+        message.push(byte);
+        let heard = comes_to(&message);
+        match held.slot.status {
+            None => self.before_status(bus, held, message, heard),
+            Some(_) => self.after_status(bus, held, message, heard),
         }
-    }
-
-    // What the begun message comes to with this byte.
-    fn heard(&self, byte: u8) -> Heard
-        ensures heard { result ≡ heard_of (message_of (take self.now.state.heard self.now.state.begun ++ byte ∷ [])) }
-        ensures short { result ≡ Heard.Part → self.now.state.heard < 257 }
-    {
-        heard_with(&self.state.begun, self.state.heard, byte)
     }
 
     // What a message comes to before the status.
     fn before_status<B: Bus>(
         &mut self,
         bus: &mut B,
-        k: u8,
-        slot: Slot,
-        byte: u8,
+        held: &Held,
+        message: ArrayVec<u8, 258>,
         heard: Heard,
     ) -> Answer
-        requires holds { Holds self.old.state k slot }
-        requires room { heard ≡ Heard.Part → self.old.state.heard < 257 }
-        ensures { (m : List ℕ) → Plays (λ b. (B.Bus.means b).shown) B.Bus.did (by_heard (view self.old.state) k (entry_of slot) (take self.old.state.heard self.old.state.begun ++ byte ∷ []) heard None) bus.old m result (view self.new.state) bus.new m }
+        requires as_kept { slot_at self.old.state.slots held.now.k ≡ held.now.slot }
+        requires room { heard ≡ Heard.Part → length message.items ≤ 257 }
+        ensures { (m : List ℕ) → Plays (λ b. (B.Bus.means b).shown) B.Bus.did (by_heard (view self.old.state) held.now.k (entry_of held.now.slot) message.items heard None) bus.old m result (view self.new.state) bus.new m }
     {
-        let mut changed = slot;
+        let slot = held.slot;
         match heard {
-            Heard::Part => self.hear_more(k, byte),
+            Heard::Part => self.hear_more(held, message),
             Heard::Save => {
-                changed.saved = slot.current;
-                self.keep(k, changed);
+                let saved = Slot {
+                    saved: slot.current,
+                    ..slot
+                };
+                self.keep(held.k, saved);
             }
             Heard::Restore => {
-                changed.current = slot.saved;
-                self.keep(k, changed);
+                let restored = Slot {
+                    current: slot.saved,
+                    ..slot
+                };
+                self.keep(held.k, restored);
             }
-            Heard::Disconnect => {
-                changed.state = State::Away;
-                self.leave(k, changed);
-            }
-            Heard::Reject => self.hold(k),
-            Heard::Complete | Heard::Other => return self.reject(bus, k),
+            Heard::Disconnect => self.leave(held, State::Away),
+            Heard::Reject => self.hold(held),
+            Heard::Complete | Heard::Other => return self.reject(bus, held),
         }
-        Answer::Told(k)
+        Answer::Told(Some(held.k))
     }
 
     // What a message comes to after the status.
     fn after_status<B: Bus>(
         &mut self,
         bus: &mut B,
-        k: u8,
-        slot: Slot,
-        byte: u8,
+        held: &Held,
+        message: ArrayVec<u8, 258>,
         heard: Heard,
     ) -> Answer
-        requires holds { Holds self.old.state k slot }
-        requires room { heard ≡ Heard.Part → self.old.state.heard < 257 }
-        ensures { (m : List ℕ) (s : ℕ) → Plays (λ b. (B.Bus.means b).shown) B.Bus.did (by_heard (view self.old.state) k (entry_of slot) (take self.old.state.heard self.old.state.begun ++ byte ∷ []) heard (Some s)) bus.old m result (view self.new.state) bus.new m }
+        requires as_kept { slot_at self.old.state.slots held.now.k ≡ held.now.slot }
+        requires room { heard ≡ Heard.Part → length message.items ≤ 257 }
+        ensures { (m : List ℕ) (s : ℕ) → Plays (λ b. (B.Bus.means b).shown) B.Bus.did (by_heard (view self.old.state) held.now.k (entry_of held.now.slot) message.items heard (Some s)) bus.old m result (view self.new.state) bus.new m }
     {
         match heard {
             Heard::Part => {
-                self.hear_more(k, byte);
-                Answer::Told(k)
+                self.hear_more(held, message);
+                Answer::Told(Some(held.k))
             }
             Heard::Complete => {
-                let mut changed = slot;
-                changed.state = State::Finished(Outcome::Done);
-                self.leave(k, changed);
-                Answer::Finished(k)
+                self.leave(held, State::Finished(Outcome::Done));
+                Answer::Finished(held.k)
             }
-            _ => self.reject(bus, k),
+            _ => self.reject(bus, held),
         }
     }
 
     // A message that is not obeyed: MESSAGE REJECT.
-    fn reject<B: Bus>(&mut self, bus: &mut B, k: u8) -> Answer
-        requires { ConnectedAt self.old.state k }
-        ensures { (m : List ℕ) → Plays (λ b. (B.Bus.means b).shown) B.Bus.did (rejecting (view self.old.state) k) bus.old m result (view self.new.state) bus.new m }
+    fn reject<B: Bus>(&mut self, bus: &mut B, held: &Held) -> Answer
+        requires { slot_at self.old.state.slots held.now.k ≡ held.now.slot }
+        ensures { (m : List ℕ) → Plays (λ b. (B.Bus.means b).shown) B.Bus.did (rejecting (view self.old.state) held.now.k) bus.old m result (view self.new.state) bus.new m }
     {
-        let _ = bus.speak(&[0x07]);
-        self.hold(k);
-        Answer::Told(k)
+        let _ = bus.speak(&Word::MessageReject.bytes());
+        self.hold(held);
+        Answer::Told(Some(held.k))
     }
-}
-
-// What a begun message comes to with one byte more.
-fn heard_with(begun: &[u8; 258], heard: u16, byte: u8) -> Heard
-    requires { heard ≤ 257 }
-    ensures heard { result ≡ heard_of (message_of (take heard begun.now ++ byte ∷ [])) }
-    ensures short { result ≡ Heard.Part → heard < 257 }
-{
-    let mut bytes = *begun;
-    let end = heard as usize;
-    bytes[end] = byte;
-    comes_to(&bytes[..end + 1])
 }
 
 // What a message comes to.
@@ -136,7 +112,7 @@ fn comes_to(bytes: &[u8]) -> Heard
     }
 }
 
-// The kind of a whole message.
+// The kind of a whole message. No `From`: both types are of crates below.
 fn kind_of(message: Message<'_>) -> Heard
     ensures heard { result ≡ heard_of (Some (meant message.entry)) }
     ensures whole { result ≢ Heard.Part }

@@ -1,194 +1,208 @@
 // The rows of the step table while a slot holds the line.
-ghost use Rattle.std.specs.Prelude.{◌≡◌, ℕ, List, take, if◌then◌else◌, None};
-ghost use Rattle.table.specs.Engine.{tagged};
+ghost use Rattle.std.specs.Prelude.{◌≡◌, ◌≢◌, ◌+◌, ◌<◌, ℕ, List, true, if◌then◌else◌, Some, None};
+ghost use Rattle.slots.specs.declared.slot.State.TheVariants.{Connected};
+ghost use Rattle.table.specs.Engine.{numbered, tagged};
+ghost use Rattle.scsi.specs.Words.{word_byte};
 ghost use Rattle.table.specs.Script.{Plays};
-ghost use Rattle.table.specs.Table.{data_in_by, data_out_by, command_by, status_by, abort_by, held_by, on_held, finish_by, fault as fault_of};
-ghost use Rattle.table.specs.View.{view, entry_of};
-ghost use Rattle.engine.specs.Fields.{Holds, ConnectedAt};
+ghost use Rattle.table.specs.Table.{data_in_by, data_out_by, command_by, status_by, abort_by, held_by, finish_by, advance_by, holding, fault as fault_of};
+ghost use Rattle.table.specs.View.{view, slot_at, entry_of};
 
-use crate::fault::fault;
 use crate::memory::{fetch, store};
 use crate::state::Engine;
 use bus::{Bus, Shown};
+use scsi::Word;
 use shelf::Way;
-use slots::{Answer, Layer, Manner, Outcome, Slot, State};
+use slots::{Answer, Fault, Holder, Layer, Line, Manner, Outcome, Slot, SlotNumber, State};
+
+// A slot that holds the line, with its number.
+#[derive(Clone, Copy)]
+pub(crate) struct Held {
+    pub(crate) k: SlotNumber,
+    pub(crate) slot: Slot,
+    ghost numbered: { numbered k ≡ true },
+    ghost connected: { slot.state ≡ Connected },
+}
+
+impl Held {
+    // The place of the memory that its current pointer is at.
+    fn place(&self) -> usize
+        ensures { result ≡ self.now.slot.command.base + self.now.slot.current }
+    {
+        self.slot.command.base as usize + self.slot.current as usize
+    }
+
+    // A fault while it holds the line.
+    fn fault(&self, layer: Layer, shown: Shown) -> Answer
+        ensures { result ≡ fault_of layer shown (Some (holding self.now.k (entry_of self.now.slot))) }
+    {
+        Answer::Fault(Fault {
+            layer,
+            shown,
+            holder: Some(Holder {
+                slot: self.k,
+                pointer: self.slot.current,
+            }),
+        })
+    }
+}
 
 impl Engine {
-    // A step while slot `k` holds the line: inside a message only its bytes come, and PAUSE.
-    pub(crate) fn held_step<B: Bus>(
-        &mut self,
-        bus: &mut B,
-        memory: &mut [u8],
-        k: u8,
-        shown: Shown,
-    ) -> Answer
-        requires { ConnectedAt self.old.state k }
-        ensures { Plays (λ b. (B.Bus.means b).shown) B.Bus.did (on_held (view self.old.state) k ((view self.old.state).slots k) (take self.old.state.heard self.old.state.begun) shown) bus.old memory.old result (view self.new.state) bus.new memory.new }
+    // Slot `k`, which holds the line.
+    pub(crate) fn held(&self, k: SlotNumber) -> Held
+        requires { self.now.state.line ≡ Line.Held k }
+        ensures number { result.k ≡ k }
+        ensures slot { slot_at self.now.state.slots k ≡ result.slot }
     {
-        let slot = self.state.slots[(k - 1) as usize];
-        if self.state.heard == 0 {
-            return self.held_row(bus, memory, k, slot, shown);
-        }
-        match shown {
-            Shown::MessageIn(byte) => self.message_byte(bus, k, slot, byte),
-            _ => self.no_message(bus, shown),
+        Held {
+            k,
+            slot: self.slot(k),
         }
     }
 
-    // The row by what is shown, with no begun message.
-    fn held_row<B: Bus>(
+    // The row by what is shown, with no begun message; bytes of one and PAUSE have other rows.
+    pub(crate) fn held_row<B: Bus>(
         &mut self,
         bus: &mut B,
         memory: &mut [u8],
-        k: u8,
-        slot: Slot,
+        held: &Held,
         shown: Shown,
     ) -> Answer
-        requires holds { Holds self.old.state k slot }
-        requires nothing_begun { self.old.state.heard ≡ 0 }
-        ensures { Plays (λ b. (B.Bus.means b).shown) B.Bus.did (held_by (view self.old.state) k (entry_of slot) shown) bus.old memory.old result (view self.new.state) bus.new memory.new }
+        requires as_kept { slot_at self.old.state.slots held.now.k ≡ held.now.slot }
+        requires no_byte { (v : ℕ) → shown ≢ Shown.MessageIn v }
+        requires no_pause { shown ≢ Shown.Pause }
+        ensures { Plays (λ b. (B.Bus.means b).shown) B.Bus.did (held_by (view self.old.state) held.now.k (entry_of held.now.slot) shown) bus.old memory.old result (view self.new.state) bus.new memory.new }
     {
         match shown {
-            Shown::DataOut => self.data_out(bus, memory, k, slot),
-            Shown::DataIn(byte) => self.data_in(bus, memory, k, slot, byte),
-            Shown::Command => self.send_command(bus, k, slot),
-            Shown::Status(byte) => match slot.status {
-                None => self.take_status(bus, k, slot, byte),
-                Some(_) => self.violation(bus, Shown::Status(byte)),
+            Shown::DataOut => self.data_out(bus, memory, held),
+            Shown::DataIn(byte) => self.data_in(bus, memory, held, byte),
+            Shown::Command => self.send_command(bus, held),
+            Shown::Status(byte) => match held.slot.status {
+                None => self.take_status(bus, held, byte),
+                Some(_) => self.violation(bus, shown),
             },
             Shown::MessageOut => {
-                let _ = bus.speak(&[0x08]);
-                Answer::Told(k)
+                let _ = bus.speak(&Word::NoOperation.bytes());
+                Answer::Told(Some(held.k))
             }
-            Shown::MessageIn(byte) => self.message_byte(bus, k, slot, byte),
-            Shown::Free => self.dropped(k, slot),
-            Shown::Pause => self.pausing(bus),
-            Shown::Reserved4 => self.violation(bus, Shown::Reserved4),
-            Shown::Reserved5 => self.violation(bus, Shown::Reserved5),
-            Shown::Reselect(target) => self.violation(bus, Shown::Reselect(target)),
+            Shown::Free => self.dropped(held),
+            _ => self.violation(bus, shown),
         }
     }
 
     // FREE: the target left the line.
-    fn dropped(&mut self, k: u8, slot: Slot) -> Answer
-        requires { Holds self.old.state k slot }
-        ensures answer { result ≡ fault_of Layer.Nexus Shown.Free k slot.current }
-        ensures after { view self.new.state ≡ finish_by (view self.old.state) k (entry_of slot) Outcome.Dropped }
+    fn dropped(&mut self, held: &Held) -> Answer
+        requires { slot_at self.old.state.slots held.now.k ≡ held.now.slot }
+        ensures answer { result ≡ fault_of Layer.Nexus Shown.Free (Some (holding held.now.k (entry_of held.now.slot))) }
+        ensures after { view self.new.state ≡ finish_by (view self.old.state) held.now.k (entry_of held.now.slot) Outcome.Dropped }
     {
-        let mut changed = slot;
-        changed.state = State::Finished(Outcome::Dropped);
-        self.leave(k, changed);
-        fault(Layer::Nexus, Shown::Free, k, slot.current)
+        self.leave(held, State::Finished(Outcome::Dropped));
+        held.fault(Layer::Nexus, Shown::Free)
     }
 
-    // The wrong direction, or a place past the region: slot `k` is aborted, and finished with this outcome.
-    fn abort<B: Bus>(
-        &mut self,
-        bus: &mut B,
-        k: u8,
-        slot: Slot,
-        shown: Shown,
-        outcome: Outcome,
-    ) -> Answer
-        requires { Holds self.old.state k slot }
-        ensures { (m : List ℕ) → Plays (λ b. (B.Bus.means b).shown) B.Bus.did (abort_by (view self.old.state) k (entry_of slot) shown outcome) bus.old m result (view self.new.state) bus.new m }
+    // The wrong direction, or a place past the region: the command is aborted, and finished with this outcome.
+    fn abort<B: Bus>(&mut self, bus: &mut B, held: &Held, shown: Shown, outcome: Outcome) -> Answer
+        requires { slot_at self.old.state.slots held.now.k ≡ held.now.slot }
+        ensures { (m : List ℕ) → Plays (λ b. (B.Bus.means b).shown) B.Bus.did (abort_by (view self.old.state) held.now.k (entry_of held.now.slot) shown outcome) bus.old m result (view self.new.state) bus.new m }
     {
-        let _ = bus.speak(&[abort_message(slot.command.manner)]);
-        let mut changed = slot;
-        changed.state = State::Finished(outcome);
-        self.leave(k, changed);
-        fault(Layer::Pointer, shown, k, slot.current)
+        let _ = bus.speak(&abort_message(held.slot.command.manner).bytes());
+        self.leave(held, State::Finished(outcome));
+        held.fault(Layer::Pointer, shown)
     }
 
     // DATA IN: one byte to the current pointer.
-    fn data_in<B: Bus>(
-        &mut self,
-        bus: &mut B,
-        memory: &mut [u8],
-        k: u8,
-        slot: Slot,
-        byte: u8,
-    ) -> Answer
-        requires { Holds self.old.state k slot }
-        ensures { Plays (λ b. (B.Bus.means b).shown) B.Bus.did (data_in_by (view self.old.state) k (entry_of slot) byte) bus.old memory.old result (view self.new.state) bus.new memory.new }
+    fn data_in<B: Bus>(&mut self, bus: &mut B, memory: &mut [u8], held: &Held, byte: u8) -> Answer
+        requires { slot_at self.old.state.slots held.now.k ≡ held.now.slot }
+        ensures { Plays (λ b. (B.Bus.means b).shown) B.Bus.did (data_in_by (view self.old.state) held.now.k (entry_of held.now.slot) byte) bus.old memory.old result (view self.new.state) bus.new memory.new }
     {
-        match slot.command.direction {
-            Way::In => {
-                if slot.current < slot.command.length {
-                    let _ = bus.take();
-                    store(
-                        memory,
-                        slot.command.base as usize + slot.current as usize,
-                        byte,
-                    );
-                    let mut changed = slot;
-                    changed.current = slot.current + 1;
-                    self.keep(k, changed);
-                    Answer::Moved(k)
-                } else {
-                    self.abort(bus, k, slot, Shown::DataIn(byte), Outcome::Overrun)
-                }
-            }
-            _ => self.abort(bus, k, slot, Shown::DataIn(byte), Outcome::WrongWay),
+        let Slot {
+            command,
+            current,
+            ..
+        } = held.slot;
+        if held.slot.command.direction != Way::In {
+            return self.abort(bus, held, Shown::DataIn(byte), Outcome::WrongWay);
         }
+        if held.slot.current >= held.slot.command.length {
+            return self.abort(bus, held, Shown::DataIn(byte), Outcome::Overrun);
+        }
+        let _ = bus.take();
+        store(memory, held.place(), byte);
+        self.advance(held)
     }
 
     // DATA OUT: one byte from the current pointer.
-    fn data_out<B: Bus>(&mut self, bus: &mut B, memory: &[u8], k: u8, slot: Slot) -> Answer
-        requires { Holds self.old.state k slot }
-        ensures { Plays (λ b. (B.Bus.means b).shown) B.Bus.did (data_out_by (view self.old.state) k (entry_of slot)) bus.old memory.now result (view self.new.state) bus.new memory.now }
+    fn data_out<B: Bus>(&mut self, bus: &mut B, memory: &[u8], held: &Held) -> Answer
+        requires { slot_at self.old.state.slots held.now.k ≡ held.now.slot }
+        ensures { Plays (λ b. (B.Bus.means b).shown) B.Bus.did (data_out_by (view self.old.state) held.now.k (entry_of held.now.slot)) bus.old memory.now result (view self.new.state) bus.new memory.now }
     {
-        match slot.command.direction {
-            Way::Out => {
-                if slot.current < slot.command.length {
-                    let byte = fetch(memory, slot.command.base as usize + slot.current as usize);
-                    let _ = bus.give(byte);
-                    let mut changed = slot;
-                    changed.current = slot.current + 1;
-                    self.keep(k, changed);
-                    Answer::Moved(k)
-                } else {
-                    self.abort(bus, k, slot, Shown::DataOut, Outcome::Overrun)
-                }
-            }
-            _ => self.abort(bus, k, slot, Shown::DataOut, Outcome::WrongWay),
+        let Slot {
+            command,
+            current,
+            ..
+        } = held.slot;
+        if held.slot.command.direction != Way::Out {
+            return self.abort(bus, held, Shown::DataOut, Outcome::WrongWay);
         }
+        if held.slot.current >= held.slot.command.length {
+            return self.abort(bus, held, Shown::DataOut, Outcome::Overrun);
+        }
+        let _ = bus.give(fetch(memory, held.place()));
+        self.advance(held)
+    }
+
+    // A byte was moved: the current pointer grows by one.
+    fn advance(&mut self, held: &Held) -> Answer
+        requires as_kept { slot_at self.old.state.slots held.now.k ≡ held.now.slot }
+        requires room { held.now.slot.current + 1 < 4294967296 }
+        ensures answer { result ≡ Answer.Moved held.now.k }
+        ensures after { view self.new.state ≡ advance_by (view self.old.state) held.now.k (entry_of held.now.slot) }
+    {
+        let moved = Slot {
+            current: held.slot.current + 1,
+            ..held.slot
+        };
+        self.keep(held.k, moved);
+        Answer::Moved(held.k)
     }
 
     // COMMAND, once.
-    fn send_command<B: Bus>(&mut self, bus: &mut B, k: u8, slot: Slot) -> Answer
-        requires { Holds self.old.state k slot }
-        ensures { (m : List ℕ) → Plays (λ b. (B.Bus.means b).shown) B.Bus.did (command_by (view self.old.state) k (entry_of slot) slot.sent) bus.old m result (view self.new.state) bus.new m }
+    fn send_command<B: Bus>(&mut self, bus: &mut B, held: &Held) -> Answer
+        requires { slot_at self.old.state.slots held.now.k ≡ held.now.slot }
+        ensures { (m : List ℕ) → Plays (λ b. (B.Bus.means b).shown) B.Bus.did (command_by (view self.old.state) held.now.k (entry_of held.now.slot) held.now.slot.sent) bus.old m result (view self.new.state) bus.new m }
     {
-        if slot.sent {
+        if held.slot.sent {
             return self.violation(bus, Shown::Command);
         }
-        let _ = bus.command(slot.command.bytes.as_slice());
-        let mut changed = slot;
-        changed.sent = true;
-        self.keep(k, changed);
-        Answer::Told(k)
+        let _ = bus.command(held.slot.command.bytes.as_slice());
+        let sent = Slot {
+            sent: true,
+            ..held.slot
+        };
+        self.keep(held.k, sent);
+        Answer::Told(Some(held.k))
     }
 
     // STATUS, where none has come.
-    fn take_status<B: Bus>(&mut self, bus: &mut B, k: u8, slot: Slot, byte: u8) -> Answer
-        requires { Holds self.old.state k slot }
-        ensures { (m : List ℕ) → Plays (λ b. (B.Bus.means b).shown) B.Bus.did (status_by (view self.old.state) k (entry_of slot) byte None) bus.old m result (view self.new.state) bus.new m }
+    fn take_status<B: Bus>(&mut self, bus: &mut B, held: &Held, byte: u8) -> Answer
+        requires { slot_at self.old.state.slots held.now.k ≡ held.now.slot }
+        ensures { (m : List ℕ) → Plays (λ b. (B.Bus.means b).shown) B.Bus.did (status_by (view self.old.state) held.now.k (entry_of held.now.slot) byte None) bus.old m result (view self.new.state) bus.new m }
     {
         let _ = bus.take();
-        let mut changed = slot;
-        changed.status = Some(byte);
-        self.keep(k, changed);
-        Answer::Told(k)
+        let told = Slot {
+            status: Some(byte),
+            ..held.slot
+        };
+        self.keep(held.k, told);
+        Answer::Told(Some(held.k))
     }
 }
 
 // ABORT TAG for a tagged command, else ABORT.
-fn abort_message(manner: Manner) -> u8
-    ensures { result ≡ (if tagged manner then 0x0D else 0x06) }
+fn abort_message(manner: Manner) -> Word
+    ensures { word_byte result ≡ (if tagged manner then 0x0D else 0x06) }
 {
     match manner {
-        Manner::Tagged => 0x0d,
-        _ => 0x06,
+        Manner::Tagged => Word::AbortTag,
+        Manner::Plain | Manner::Leaving => Word::Abort,
     }
 }

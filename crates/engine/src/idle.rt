@@ -1,25 +1,25 @@
 // The rows of the step table while the line is idle.
-ghost use Rattle.std.specs.Prelude.{◌≡◌, ℕ, true, List, Some};
-ghost use Rattle.table.specs.Engine.{first_of, is_open, tagged, numbered, tag_for, may_leave};
+ghost use Rattle.std.specs.Prelude.{◌≡◌, ◌≢◌, ℕ, true, List, Some};
+ghost use Rattle.table.specs.Engine.{first_of, stands_on, tagged, tag_for, may_leave};
+ghost use Rattle.std.specs.List.{list_all};
 ghost use Rattle.table.specs.Script.{Plays};
 ghost use Rattle.table.specs.Table.{lets_by, eligible, on_free, idle_row};
 ghost use Rattle.table.specs.View.{view, entry_of};
-ghost use Rattle.engine.specs.Fields.{WaitingAt};
 
-use crate::chains::is_numbered;
+use crate::changes::is_open;
 use crate::state::Engine;
 use bus::{Bus, Selection, Shown};
 use scsi::Greeting;
-use slots::{Answer, Command, Line, Manner, Outcome, Slot, State};
+use slots::{Answer, Command, Line, Manner, Outcome, Slot, SlotNumber, State};
 
 impl Engine {
     // The row by what is shown.
     pub(crate) fn idle_row<B: Bus>(&mut self, bus: &mut B, shown: Shown) -> Answer
+        requires { shown ≢ Shown.Pause }
         ensures { (m : List ℕ) → Plays (λ b. (B.Bus.means b).shown) B.Bus.did (idle_row (view self.old.state) shown) bus.old m result (view self.new.state) bus.new m }
     {
         match shown {
             Shown::Free => self.on_free(bus),
-            Shown::Pause => self.pausing(bus),
             Shown::Reselect(target) => {
                 let _ = bus.accept();
                 self.listen(Line::Greeted(target));
@@ -43,27 +43,32 @@ impl Engine {
     }
 
     // Slot `k`, which waits, is selected.
-    fn select<B: Bus>(&mut self, bus: &mut B, k: u8) -> Answer
-        requires { WaitingAt self.old.state k }
+    fn select<B: Bus>(&mut self, bus: &mut B, k: SlotNumber) -> Answer
+        requires { stands_on k (view self.old.state).waiting ≡ true }
         ensures { (m : List ℕ) → Plays (λ b. (B.Bus.means b).shown) B.Bus.did (on_free (view self.old.state) (Some k)) bus.old m result (view self.new.state) bus.new m }
     {
-        let slot = self.state.slots[(k - 1) as usize];
-        let mut changed = slot;
+        let slot = self.slot(k);
         match bus.select(
-            slot.command.target,
+            slot.command.unit.target,
             greeting(k, slot.command).bytes().as_slice(),
         ) {
             Ok(Selection::Selected) => {
-                changed.state = State::Connected;
-                changed.current = 0;
-                changed.saved = 0;
-                self.unqueue(k, changed, Line::Held(k));
+                let connected = Slot {
+                    state: State::Connected,
+                    current: 0,
+                    saved: 0,
+                    ..slot
+                };
+                self.unqueue(k, connected, Line::Held(k));
                 Answer::Selected(k)
             }
             Ok(Selection::Lost) => Answer::Lost(k),
             Ok(Selection::Absent) => {
-                changed.state = State::Finished(Outcome::Absent);
-                self.unqueue(k, changed, Line::Idle);
+                let finished = Slot {
+                    state: State::Finished(Outcome::Absent),
+                    ..slot
+                };
+                self.unqueue(k, finished, Line::Idle);
                 Answer::Finished(k)
             }
             Err(_) => self.violation(bus, Shown::Free),
@@ -71,34 +76,26 @@ impl Engine {
     }
 
     // The first slot of the waiting chain that is eligible.
-    fn first_eligible(&self) -> Option<u8>
+    fn first_eligible(&self) -> Option<SlotNumber>
         ensures { result ≡ first_of (view self.now.state).waiting (eligible (view self.now.state)) }
     {
-        let mut k = self.state.waiting;
-        for turn in 0..16u8 {
-            if !is_numbered(k) {
-                return None;
-            }
-            if self.is_eligible(k) {
+        let mut next = self.state.waiting;
+        for _ in 0..16u8 {
+            let k = SlotNumber::new(next)?;
+            let slot = self.slot(k);
+            if self.is_eligible(slot) {
                 return Some(k);
             }
-            k = self.state.slots[(k - 1) as usize].next;
+            next = slot.next;
         }
         None
     }
 
-    // Whether the unit of slot `k` has no connected or away command, or it and all of those are tagged.
-    fn is_eligible(&self, k: u8) -> bool
-        requires { numbered k ≡ true }
-        ensures { result ≡ eligible (view self.now.state) k }
+    // Whether the unit of the slot has no connected or away command, or it and all of those are tagged.
+    fn is_eligible(&self, slot: Slot) -> bool
+        ensures { result ≡ list_all (λ x. lets_by (entry_of slot) (entry_of x)) self.now.state.slots }
     {
-        let slot = self.state.slots[(k - 1) as usize];
-        for other in 1..=16u8 {
-            if !lets(slot, self.state.slots[(other - 1) as usize]) {
-                return false;
-            }
-        }
-        true
+        self.state.slots.iter().all(|other| lets(slot, *other))
     }
 }
 
@@ -106,46 +103,25 @@ impl Engine {
 fn lets(slot: Slot, other: Slot) -> bool
     ensures { result ≡ lets_by (entry_of slot) (entry_of other) }
 {
-    let meets = is_open(other.state)
-        && slot.command.target == other.command.target
-        && slot.command.lun == other.command.lun;
+    let meets = is_open(other.state) && slot.command.unit == other.command.unit;
     !meets || is_tagged(slot.command.manner) && is_tagged(other.command.manner)
 }
 
 // What slot `k` is selected with.
-fn greeting(k: u8, command: Command) -> Greeting
-    ensures lun { result.lun ≡ command.lun }
+fn greeting(k: SlotNumber, command: Command) -> Greeting
+    ensures lun { result.lun ≡ command.unit.lun }
     ensures leave { result.leave ≡ may_leave command.manner }
     ensures tag { result.tag ≡ tag_for k command.manner }
 {
-    match command.manner {
-        Manner::Plain => Greeting {
-            lun: command.lun,
-            leave: false,
-            tag: None,
-        },
-        Manner::Leaving => Greeting {
-            lun: command.lun,
-            leave: true,
-            tag: None,
-        },
-        Manner::Tagged => Greeting {
-            lun: command.lun,
-            leave: true,
-            tag: Some(k),
-        },
+    Greeting {
+        lun: command.unit.lun,
+        leave: command.manner != Manner::Plain,
+        tag: is_tagged(command.manner).then_some(k.get()),
     }
-}
-
-// Whether it is connected or away.
-fn is_open(state: State) -> bool
-    ensures { result ≡ is_open state }
-{
-    matches!(state, State::Connected | State::Away)
 }
 
 pub(crate) fn is_tagged(manner: Manner) -> bool
     ensures { result ≡ tagged manner }
 {
-    matches!(manner, Manner::Tagged)
+    manner == Manner::Tagged
 }

@@ -4,7 +4,6 @@
 mod chains;
 mod changes;
 mod collect;
-mod fault;
 mod general;
 mod greeted;
 mod hearing;

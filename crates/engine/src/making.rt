@@ -5,8 +5,9 @@ ghost use Rattle.table.specs.View.{view, fresh_slot, fresh_slots, fresh_fields};
 
 use crate::size::MemorySize;
 use crate::state::Engine;
+use arrayvec::ArrayVec;
 use scsi::Cdb;
-use shelf::Way;
+use shelf::{Unit, Way};
 use slots::{Command, Line, Manner, Slot, Slots, State};
 
 impl Engine {
@@ -22,8 +23,7 @@ impl Engine {
                 free: 1,
                 waiting: 0,
                 line: Line::Idle,
-                begun: [0; 258],
-                heard: 0,
+                begun: ArrayVec::new(),
                 size: size.bytes,
             },
         }
@@ -38,8 +38,7 @@ fn fresh(next: u8) -> Slot
         next,
         state: State::Free,
         command: Command {
-            target: 0,
-            lun: 0,
+            unit: Unit { target: 0, lun: 0 },
             manner: Manner::Plain,
             direction: Way::Still,
             bytes: Cdb::Six([0; 6]),

@@ -27,18 +27,6 @@ impl Engine {
         ensures isolated { RunAlone (λ b. (B.Bus.means b).shown) B.Bus.did allowance (view self.old.state) bus.old memory.old result.0 result.1 (view self.new.state) bus.new memory.new }
         ensures refused { RefusedChangesNothing result.1 self.old.state self.new.state }
     {
-        self.try_rows(bus, memory, allowance)
-    }
-
-    fn try_rows<B: Bus>(
-        &mut self,
-        bus: &mut B,
-        memory: &mut [u8],
-        allowance: u32,
-    ) -> (u32, Result<End, Refusal>)
-        ensures ran { Ran (λ b. (B.Bus.means b).shown) B.Bus.did allowance (view self.old.state) bus.old memory.old result.0 result.1 (view self.new.state) bus.new memory.new }
-        ensures refused { RefusedChangesNothing result.1 self.old.state self.new.state }
-    {
         if memory.len() != self.state.size as usize {
             return (0, Err(Refusal::MemorySize));
         }
@@ -50,31 +38,13 @@ impl Engine {
     fn rows<B: Bus>(&mut self, bus: &mut B, memory: &mut [u8], allowance: u32) -> (u32, End)
         ensures { PlaysRun (λ b. (B.Bus.means b).shown) B.Bus.did allowance (view self.old.state) bus.old memory.old result.0 result.1 (view self.new.state) bus.new memory.new }
     {
-        let mut left = allowance;
-        while left > 0 {
-            let end = end_of(self.row(bus, memory));
-            left -= 1;
-            if is_end(end) {
-                return (allowance - left, end);
+        for made in 1..=allowance {
+            match self.row(bus, memory) {
+                Answer::Finished(slot) => return (made, End::Finished(slot)),
+                Answer::Fault(fault) => return (made, End::Fault(fault)),
+                _ => {}
             }
         }
         (allowance, End::Spent)
     }
-}
-
-// How an answer ends a run; spent where it does not.
-fn end_of(answer: Answer) -> End
-    ensures { result ≡ end_by answer }
-{
-    match answer {
-        Answer::Finished(slot) => End::Finished(slot),
-        Answer::Fault(fault) => End::Fault(fault),
-        _ => End::Spent,
-    }
-}
-
-fn is_end(end: End) -> bool
-    ensures { result ≡ is_end end }
-{
-    !matches!(end, End::Spent)
 }

@@ -1,3 +1,4 @@
+ghost use Rattle.std.specs.Prelude.{◌≡◌, length};
 ghost use Rattle.engine.specs.Whole.{Ended, FreeChain, WaitingChain, LineKept};
 
 use slots::Slots;
@@ -6,6 +7,7 @@ use slots::Slots;
 #[derive(Drop)]
 pub struct Engine {
     pub(crate) state: Slots,
+    ghost long: { length state.slots ≡ 16 },
     ghost ended: { Ended state },
     ghost free: { FreeChain state },
     ghost waiting: { WaitingChain state },

@@ -1,18 +1,18 @@
 // A command is submitted: the tests, and its slot.
-ghost use Rattle.std.specs.Prelude.{◌≡◌, IfOk, if◌then◌else◌, Some, None, nat_lt};
+ghost use Rattle.std.specs.Prelude.{◌≡◌, IfOk, None};
 ghost use Rattle.table.specs.Engine.{every, is_out, in_use};
-ghost use Rattle.table.specs.Calls.{manner_of, direction_of, command_asked, share, clear_by, clear_of, malformed, earlier_refusal, submit_answer, submit_engine, Event};
+ghost use Rattle.table.specs.Calls.{command_asked, share, clear_by, clear_of, malformed, earlier_refusal, submit_answer, submit_engine, Event};
 ghost use Rattle.table.specs.View.{view, entry_of, command_of};
 ghost use Rattle.engine.specs.Answers.{asked, refusal_told, ticket_told, RefusedChangesNothing};
 ghost use Rattle.engine.specs.Lawfully.{LawfulBeside};
+ghost use Rattle.std.specs.List.{list_all};
 
-use crate::chains::is_numbered;
 use crate::request::Request;
 use crate::state::Engine;
 use crate::ticket::Ticket;
 use scsi::Cdb;
-use shelf::Way;
-use slots::{Command, Manner, Refusal, Slot, State};
+use shelf::{Unit, Way};
+use slots::{Command, Manner, Refusal, Slot, SlotNumber, State};
 
 impl Engine {
     /// Accepts a command: it waits in a slot of its own, which the ticket names. The first test that fails refuses it.
@@ -22,19 +22,8 @@ impl Engine {
         ensures lawful { LawfulBeside (Event.submit (asked request.entry) (ticket_told result)) (view self.old.state) (view self.new.state) }
         ensures refused { RefusedChangesNothing result self.old.state self.new.state }
     {
-        self.take_in(request)
-    }
-
-    fn take_in(&mut self, request: Request<'_>) -> Result<Ticket, Refusal>
-        ensures answer { ticket_told result ≡ submit_answer (earlier_refusal (view self.old.state) (asked request.entry)) (view self.old.state) }
-        ensures after { view self.new.state ≡ submit_engine (earlier_refusal (view self.old.state) (asked request.entry)) (asked request.entry) (view self.old.state) }
-        ensures refused { RefusedChangesNothing result self.old.state self.new.state }
-    {
         let command = self.admit(request)?;
-        let k = self.state.free;
-        if !is_numbered(k) {
-            return Err(Refusal::Full);
-        }
+        let k = SlotNumber::new(self.state.free).ok_or(Refusal::Full)?;
         self.enqueue(k, command);
         Ok(Ticket { slot: k })
     }
@@ -58,12 +47,7 @@ impl Engine {
     fn is_clear(&self, command: Command) -> bool
         ensures { result ≡ every 16 (clear_of (view self.now.state) (command_of command)) }
     {
-        for k in 1..=16u8 {
-            if !clear_of(command, self.state.slots[(k - 1) as usize]) {
-                return false;
-            }
-        }
-        true
+        clear_of_all(command, &self.state.slots)
     }
 }
 
@@ -78,21 +62,17 @@ fn well_formed(request: Request<'_>) -> Result<Command, Refusal>
     if request.lun > 7 {
         return Err(Refusal::Lun);
     }
-    let Some(bytes) = Cdb::new(request.bytes) else {
-        return Err(Refusal::CommandLength);
-    };
-    let Some(manner) = manner_of(request.manner) else {
-        return Err(Refusal::Form);
-    };
-    let Some(direction) = direction_of(request.direction) else {
-        return Err(Refusal::Form);
-    };
+    let bytes = Cdb::new(request.bytes).ok_or(Refusal::CommandLength)?;
+    let manner = Manner::try_from(request.manner)?;
+    let direction = Way::try_from(request.direction)?;
     if request.direction == 0 && request.length != 0 {
         return Err(Refusal::Form);
     }
     Ok(Command {
-        target: request.target,
-        lun: request.lun,
+        unit: Unit {
+            target: request.target,
+            lun: request.lun,
+        },
         manner,
         direction,
         bytes,
@@ -101,35 +81,20 @@ fn well_formed(request: Request<'_>) -> Result<Command, Refusal>
     })
 }
 
-fn manner_of(number: u8) -> Option<Manner>
-    ensures { result ≡ (if nat_lt 2 number then None else Some (manner_of number)) }
+// Whether this command may be accepted beside those of all the slots.
+fn clear_of_all(command: Command, slots: &[Slot; 16]) -> bool
+    ensures { result ≡ list_all (λ x. clear_by (command_of command) (entry_of x)) slots.now }
 {
-    match number {
-        0 => Some(Manner::Plain),
-        1 => Some(Manner::Leaving),
-        2 => Some(Manner::Tagged),
-        _ => None,
-    }
-}
-
-fn direction_of(number: u8) -> Option<Way>
-    ensures { result ≡ (if nat_lt 2 number then None else Some (direction_of number)) }
-{
-    match number {
-        0 => Some(Way::Still),
-        1 => Some(Way::In),
-        2 => Some(Way::Out),
-        _ => None,
-    }
+    slots.iter().all(|slot| clear_of(command, *slot))
 }
 
 // Whether this command may be accepted beside that of the slot.
 fn clear_of(command: Command, slot: Slot) -> bool
     ensures { result ≡ clear_by (command_of command) (entry_of slot) }
 {
-    !is_used(slot.state)
+    slot.state == State::Free
         || !regions_share(command, slot.command)
-        || (is_out(command.direction) && is_out(slot.command.direction))
+        || (command.direction == Way::Out && slot.command.direction == Way::Out)
 }
 
 // Whether two commands' regions share a byte.
@@ -140,16 +105,4 @@ fn regions_share(a: Command, b: Command) -> bool
         && 0 < b.length
         && u64::from(a.base) < u64::from(b.base) + u64::from(b.length)
         && u64::from(b.base) < u64::from(a.base) + u64::from(a.length)
-}
-
-fn is_used(state: State) -> bool
-    ensures { result ≡ in_use state }
-{
-    !matches!(state, State::Free)
-}
-
-fn is_out(direction: Way) -> bool
-    ensures { result ≡ is_out direction }
-{
-    matches!(direction, Way::Out)
 }

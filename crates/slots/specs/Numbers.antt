@@ -1,5 +1,5 @@
 -- The numbers of the engine's closed lists, case by case. Assumes nothing.
-use Rattle.std.specs.Prelude.{ℕ, Some, None, Ok, Err, Option, Result}
+use Rattle.std.specs.Prelude.{◌≡◌, ℕ, ◌<◌, Some, None, Ok, Err, Option, Result, MatchResult}
 use Rattle.slots.specs.declared.command.Manner.{Manner}
 use Rattle.slots.specs.declared.command.Manner.TheVariants.{Plain, Leaving, Tagged}
 use Rattle.slots.specs.declared.slot.Outcome.{Outcome}
@@ -8,6 +8,8 @@ use Rattle.slots.specs.declared.answer.Layer.{Layer}
 use Rattle.slots.specs.declared.answer.Layer.TheVariants.{Bus, Message, Nexus, Pointer}
 use Rattle.slots.specs.declared.answer.Answer.{Answer}
 use Rattle.slots.specs.declared.answer.Answer.TheVariants.{Idle, Waited, Lost, Selected, Accepted, Moved, Finished, Told, Fault}
+use Rattle.slots.specs.declared.answer.Fault.{Fault as FaultTold}
+use Rattle.slots.specs.declared.answer.Holder.{Holder}
 use Rattle.slots.specs.declared.answer.End.{End}
 use Rattle.slots.specs.declared.answer.End.TheVariants.{Spent, Finished as FinishedEnd, Fault as FaultEnd}
 use Rattle.slots.specs.declared.refusal.Refusal.{Refusal}
@@ -46,17 +48,37 @@ answer_number (Finished k) = 6
 answer_number (Told k) = 7
 answer_number (Fault f) = 8
 
+-- a slot by its number, 0 for none
+abbrev pub slot_number : Option ℕ → ℕ
+slot_number None = 0
+slot_number (Some k) = k
+
+-- the slot that held the line at a fault, and its current pointer, 0 for none
+abbrev pub holder_slot : Option Holder → ℕ
+holder_slot None = 0
+holder_slot (Some h) = h.slot
+
+abbrev pub holder_pointer : Option Holder → ℕ
+holder_pointer None = 0
+holder_pointer (Some h) = h.pointer
+
+abbrev pub fault_slot : FaultTold → ℕ
+fault_slot f = holder_slot f.holder
+
+abbrev pub fault_pointer : FaultTold → ℕ
+fault_pointer f = holder_pointer f.holder
+
 -- the slot that an answer is about, 0 for none
 abbrev pub answer_slot : Answer → ℕ
 answer_slot Idle = 0
-answer_slot (Waited k) = k
+answer_slot (Waited o) = slot_number o
 answer_slot (Lost k) = k
 answer_slot (Selected k) = k
 answer_slot Accepted = 0
 answer_slot (Moved k) = k
 answer_slot (Finished k) = k
-answer_slot (Told k) = k
-answer_slot (Fault f) = f.slot
+answer_slot (Told o) = slot_number o
+answer_slot (Fault f) = fault_slot f
 
 -- what ended a run: its allowance was spent, FINISHED, a fault
 abbrev pub end_number : End → ℕ
@@ -68,7 +90,7 @@ end_number (FaultEnd f) = 2
 abbrev pub end_slot : End → ℕ
 end_slot Spent = 0
 end_slot (FinishedEnd k) = k
-end_slot (FaultEnd f) = f.slot
+end_slot (FaultEnd f) = fault_slot f
 
 -- the tests of a call run in this order
 abbrev pub refusal_number : Refusal → ℕ
@@ -82,6 +104,10 @@ refusal_number Full = 7
 refusal_number MemorySize = 8
 refusal_number Unfinished = 9
 refusal_number TooLarge = 10
+
+-- the manner of this number; above 2 there is none, and the request has no form
+abbrev pub GivesManner : ℕ → Result Manner Refusal → Type 0
+GivesManner n r = MatchResult r (λ m. manner_number m ≡ n) (λ e. (e ≡ Form) × (2 < n))
 
 -- an answer, or the number of a refusal
 abbrev pub refused_by_number : {A : Type 0} → Result A Refusal → Result A ℕ

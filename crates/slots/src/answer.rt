@@ -1,44 +1,51 @@
 ghost use Rattle.std.specs.Prelude.{◌≡◌};
-ghost use Rattle.slots.specs.Numbers.{layer_number, answer_number, answer_slot, end_number, end_slot};
+ghost use Rattle.bus.specs.Kinds.{kind_of, byte_shown};
+ghost use Rattle.slots.specs.Numbers.{layer_number, answer_number, answer_slot, end_number, end_slot, fault_slot, fault_pointer, byte_number};
 
+use crate::number::SlotNumber;
 use crate::slot::Outcome;
+use bus::Shown;
 
 /// The layer that a fault is of.
 #[derive(Clone, Copy, PartialEq, Eq, Debug)]
 pub enum Layer {
-    Bus,
-    Message,
-    Nexus,
-    Pointer,
+    Bus = 1,
+    Message = 2,
+    Nexus = 3,
+    Pointer = 4,
 }
 
-/// A fault: its layer, the number of the kind shown, the byte shown (256 for none), the slot that held the line and its
-/// current pointer (0 for none).
+/// The slot that holds the line, with its current pointer.
 #[derive(Clone, Copy, PartialEq, Eq, Debug)]
-pub struct Fault {
-    pub layer: Layer,
-    pub kind: u8,
-    pub byte: u16,
-    pub slot: u8,
+pub struct Holder {
+    pub slot: SlotNumber,
     pub pointer: u32,
 }
 
-/// What a step answers, with the slot that it is about (0 for none).
+/// A fault: its layer, what was shown, and what held the line.
+#[derive(Clone, Copy, PartialEq, Eq, Debug)]
+pub struct Fault {
+    pub layer: Layer,
+    pub shown: Shown,
+    pub holder: Option<Holder>,
+}
+
+/// What a step answers, with the slot that it is about.
 #[derive(Clone, Copy, PartialEq, Eq, Debug)]
 pub enum Answer {
     /// There is nothing to select.
     Idle,
-    Waited(u8),
+    Waited(Option<SlotNumber>),
     /// The selection was lost.
-    Lost(u8),
-    Selected(u8),
+    Lost(SlotNumber),
+    Selected(SlotNumber),
     /// A target was let retake the line.
     Accepted,
     /// A data byte was moved.
-    Moved(u8),
-    Finished(u8),
+    Moved(SlotNumber),
+    Finished(SlotNumber),
     /// Everything else that is listed.
-    Told(u8),
+    Told(Option<SlotNumber>),
     Fault(Fault),
 }
 
@@ -46,15 +53,15 @@ pub enum Answer {
 #[derive(Clone, Copy, PartialEq, Eq, Debug)]
 pub enum End {
     Spent,
-    Finished(u8),
+    Finished(SlotNumber),
     Fault(Fault),
 }
 
-/// What collect answers: how the command ended, its status (256 for none), and how many bytes it moved.
+/// What collect answers: how the command ended, its status if that came, and how many bytes it moved.
 #[derive(Clone, Copy, PartialEq, Eq, Debug)]
 pub struct Collected {
     pub outcome: Outcome,
-    pub status: u16,
+    pub status: Option<u8>,
     pub count: u32,
 }
 
@@ -63,13 +70,54 @@ impl Layer {
     pub fn number(self) -> u8
         ensures { result ≡ layer_number self }
     {
-        match self {
-            Layer::Bus => 1,
-            Layer::Message => 2,
-            Layer::Nexus => 3,
-            Layer::Pointer => 4,
-        }
+        self as u8
     }
+}
+
+impl Fault {
+    /// The number of the kind shown.
+    pub fn kind(self) -> u8
+        ensures { result ≡ kind_of self.shown }
+    {
+        self.shown.kind()
+    }
+
+    /// The byte shown, 256 for none.
+    pub fn byte(self) -> u16
+        ensures { result ≡ byte_number (byte_shown self.shown) }
+    {
+        byte_number(self.shown.byte())
+    }
+
+    /// The slot that held the line, 0 for none.
+    pub fn slot(self) -> u8
+        ensures { result ≡ fault_slot self }
+    {
+        self.holder.map_or(0, |holder| holder.slot.get())
+    }
+
+    /// Its current pointer, 0 for none.
+    pub fn pointer(self) -> u32
+        ensures { result ≡ fault_pointer self }
+    {
+        self.holder.map_or(0, |holder| holder.pointer)
+    }
+}
+
+impl Collected {
+    /// The status, 256 for none.
+    pub fn status_number(self) -> u16
+        ensures { result ≡ byte_number self.status }
+    {
+        byte_number(self.status)
+    }
+}
+
+// The byte as a number, 256 for none.
+fn byte_number(byte: Option<u8>) -> u16
+    ensures { result ≡ byte_number byte }
+{
+    byte.map_or(256, u16::from)
 }
 
 impl Answer {
@@ -96,13 +144,12 @@ impl Answer {
     {
         match self {
             Answer::Idle | Answer::Accepted => 0,
-            Answer::Waited(slot)
-            | Answer::Lost(slot)
+            Answer::Waited(slot) | Answer::Told(slot) => slot.map_or(0, SlotNumber::get),
+            Answer::Lost(slot)
             | Answer::Selected(slot)
             | Answer::Moved(slot)
-            | Answer::Finished(slot)
-            | Answer::Told(slot) => slot,
-            Answer::Fault(fault) => fault.slot,
+            | Answer::Finished(slot) => slot.get(),
+            Answer::Fault(fault) => fault.slot(),
         }
     }
 }
@@ -125,8 +172,8 @@ impl End {
     {
         match self {
             End::Spent => 0,
-            End::Finished(slot) => slot,
-            End::Fault(fault) => fault.slot,
+            End::Finished(slot) => slot.get(),
+            End::Fault(fault) => fault.slot(),
         }
     }
 }

@@ -1,26 +1,26 @@
 ghost use Rattle.std.specs.Prelude.{◌≡◌};
-ghost use Rattle.slots.specs.Numbers.{manner_number};
+ghost use Rattle.slots.specs.Numbers.{manner_number, GivesManner};
 
+use crate::refusal::Refusal;
 use scsi::Cdb;
-use shelf::Way;
+use shelf::{Unit, Way};
 
 /// How a command may use the line.
 #[derive(Clone, Copy, PartialEq, Eq, Debug)]
 pub enum Manner {
     /// It holds the line to its end.
-    Plain,
+    Plain = 0,
     /// Its target may disconnect.
-    Leaving,
+    Leaving = 1,
     /// It is tagged, and its target may disconnect.
-    Tagged,
+    Tagged = 2,
 }
 
 /// A command as it was accepted: its unit, its manner, which way its data goes, the bytes for the unit, and the region of
 /// the memory that the data goes to or comes from.
-#[derive(Clone, Copy)]
+#[derive(Clone, Copy, PartialEq, Eq, Debug)]
 pub struct Command {
-    pub target: u8,
-    pub lun: u8,
+    pub unit: Unit,
     pub manner: Manner,
     pub direction: Way,
     pub bytes: Cdb,
@@ -33,10 +33,21 @@ impl Manner {
     pub fn number(self) -> u8
         ensures { result ≡ manner_number self }
     {
-        match self {
-            Manner::Plain => 0,
-            Manner::Leaving => 1,
-            Manner::Tagged => 2,
+        self as u8
+    }
+}
+
+impl TryFrom<u8> for Manner {
+    type Error = Refusal;
+
+    ghost try_from_gives = { GivesManner };
+
+    fn try_from(number: u8) -> Result<Self, Refusal> {
+        match number {
+            0 => Ok(Manner::Plain),
+            1 => Ok(Manner::Leaving),
+            2 => Ok(Manner::Tagged),
+            _ => Err(Refusal::Form),
         }
     }
 }

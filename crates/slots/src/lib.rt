@@ -4,11 +4,13 @@
 mod answer;
 mod command;
 mod line;
+mod number;
 mod refusal;
 mod slot;
 
-pub use answer::{Answer, Collected, End, Fault, Layer};
+pub use answer::{Answer, Collected, End, Fault, Holder, Layer};
 pub use command::{Command, Manner};
 pub use line::{Heard, Line};
+pub use number::SlotNumber;
 pub use refusal::Refusal;
 pub use slot::{Outcome, Slot, Slots, State};

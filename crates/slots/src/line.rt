@@ -1,19 +1,22 @@
+use crate::number::SlotNumber;
+use shelf::Unit;
+
 /// The engine's own line state.
-#[derive(Clone, Copy)]
+#[derive(Clone, Copy, PartialEq, Eq, Debug)]
 pub enum Line {
     Idle,
     /// The target retakes the line.
     Greeted(u8),
     /// The target has told the LUN.
-    Named(u8, u8),
+    Named(Unit),
     /// The target has told the LUN and that a tag comes.
-    TagDue(u8, u8),
+    TagDue(Unit),
     /// The slot holds the line.
-    Held(u8),
+    Held(SlotNumber),
 }
 
 /// What a message byte comes to.
-#[derive(Clone, Copy)]
+#[derive(Clone, Copy, PartialEq, Eq, Debug)]
 pub enum Heard {
     /// The message goes on.
     Part,

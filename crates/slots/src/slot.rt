@@ -3,26 +3,27 @@ ghost use Rattle.slots.specs.Numbers.{outcome_number};
 
 use crate::command::Command;
 use crate::line::Line;
+use arrayvec::ArrayVec;
 
 /// How a command ended.
 #[derive(Clone, Copy, PartialEq, Eq, Debug)]
 pub enum Outcome {
     /// Its target told that it is complete, after its status.
-    Done,
+    Done = 0,
     /// There is no such target.
-    Absent,
+    Absent = 1,
     /// The target asked to move a byte past the region.
-    Overrun,
+    Overrun = 2,
     /// The target asked to move a byte against the command's direction.
-    WrongWay,
+    WrongWay = 3,
     /// The target left the line free.
-    Dropped,
+    Dropped = 4,
     /// The bus was reset.
-    Reset,
+    Reset = 5,
 }
 
 /// Where a slot is in its life.
-#[derive(Clone, Copy)]
+#[derive(Clone, Copy, PartialEq, Eq, Debug)]
 pub enum State {
     Free,
     /// Accepted, and not selected yet.
@@ -36,8 +37,9 @@ pub enum State {
 
 /// One slot: its next number on its chain, its state, its command, current and saved data pointer, whether the command was
 /// sent, and its status once that came.
-#[derive(Clone, Copy)]
+#[derive(Clone, Copy, PartialEq, Eq, Debug)]
 pub struct Slot {
+    // A rule of the project: slots are chained by next numbers, and 0 ends a chain.
     pub next: u8,
     pub state: State,
     pub command: Command,
@@ -47,16 +49,16 @@ pub struct Slot {
     pub status: Option<u8>,
 }
 
-/// All that the engine keeps: its slots, numbered from 1, the heads of the free and the waiting chain, where 0 ends a chain,
-/// the line, the bytes of a begun message and how many they are, and the size of the memory.
+/// All that the engine keeps: its slots, numbered from 1, the heads of the free and the waiting chain, the line,
+/// the bytes of a begun message, and the size of the memory.
 #[derive(Drop)]
 pub struct Slots {
     pub slots: [Slot; 16],
+    // Numbers, as a slot's next one.
     pub free: u8,
     pub waiting: u8,
     pub line: Line,
-    pub begun: [u8; 258],
-    pub heard: u16,
+    pub begun: ArrayVec<u8, 258>,
     pub size: u32,
 }
 
@@ -65,13 +67,6 @@ impl Outcome {
     pub fn number(self) -> u8
         ensures { result ≡ outcome_number self }
     {
-        match self {
-            Outcome::Done => 0,
-            Outcome::Absent => 1,
-            Outcome::Overrun => 2,
-            Outcome::WrongWay => 3,
-            Outcome::Dropped => 4,
-            Outcome::Reset => 5,
-        }
+        self as u8
     }
 }

@@ -1,7 +1,9 @@
 -- What a step and a run did on a bus of any type, they did as played, and go the same way over memories alike where they may read. Assumes nothing.
 use Rattle.std.proofs.Common.{◌≡◌, ℕ, zero, suc, Bool, true, false, List, [], ◌∷◌, ◌++◌, get_or, set, sym, refl, ap, ◌∙◌, subst}
 use Rattle.bus.specs.declared.Shown.{Shown}
+use Rattle.bus.specs.State.{BusState}
 use Rattle.bus.specs.Calls.{Call, Reply, done}
+use Rattle.bus.specs.Rules.{Did}
 use Rattle.slots.specs.declared.answer.Answer.{Answer}
 use Rattle.slots.specs.declared.answer.End.{End}
 use Rattle.table.specs.Engine.{Engine}
@@ -9,10 +11,19 @@ use Rattle.table.specs.Script.{Script, return, look, ask, read, write, Plays}
 use Rattle.table.specs.Table.{step}
 use Rattle.table.specs.Calls.{When, end_by, ends, PlaysRun}
 use Rattle.table.specs.Sound.{Sound}
-use Rattle.table.specs.Isolation.{Answers, Exchange, looked, asked, Played, play, writes, Ran, then_run, play_run, HappensBy, LeavesBy, RunLeavesBy, StepIsolated, RunIsolated}
-use Rattle.table.proofs.Isolated.{first_then, writes_on, step_by_values, run_by_values}
+use Rattle.table.specs.Isolation.{Answered, Answers, later, Exchange, looked, asked, Written, Played, play, writes, Ran, then_run, play_run, HappensBy, LeavesBy, RunLeavesBy, StepIsolated, RunIsolated, RunsAsPlayed, RunAsPlayed, SameOnEveryBus}
+use Rattle.table.proofs.Isolated.{step_by_values, run_by_values}
 
 ---- what a script did, it did as played
+
+-- one answer, and then the others
+abbrev first_then : Answered → Answers → Answers
+first_then a o zero = a
+first_then a o (suc i) = o i
+
+writes_on : (l k : List Written) (m : List ℕ) → writes (l ++ k) m ≡ writes k (writes l m)
+writes_on [] k m = refl
+writes_on (x ∷ l) k m = writes_on l k (set m x.at x.value)
 
 module _ {B : Type 0} (see : B → Shown) (did : B → Call → Reply → B → Type 0) where
   -- with any answers to come after
@@ -37,6 +48,23 @@ module _ {B : Type 0} (see : B → Shown) (did : B → Call → Reply → B → 
     played (write x v p) b m r =
         let i = played p b (set m x v) r in
         (i.0, record { transcript = i.1.transcript; answer = i.1.answer; engine = i.1.engine; memory = i.1.memory }, i.2)
+
+  -- what is played, it does
+  plays_so : (p : Script) (b : B) (m : List ℕ) (a : Answer) (e' : Engine) (b' : B) (m' : List ℕ) (o : Answers) → LeavesBy see did (play o p m) b m a e' b' m' → Plays see did p b m a e' b' m'
+  plays_so (return c e) b m a e' b' m' o h = (h.answer, h.engine, h.transcript, h.memory)
+  plays_so (look f) b m a e' b' m' o h =
+      subst (λ (s : Shown). Plays see did (f s) b m a e' b' m') h.transcript.0
+      (plays_so (f (o 0).shown) b m a e' b' m' (later o) (record { transcript = h.transcript.1; answer = h.answer; engine = h.engine; memory = h.memory }))
+  plays_so (ask c f) b m a e' b' m' o h = (
+    (o 0).reply,
+    h.transcript.0,
+    h.transcript.1,
+    plays_so (f (o 0).reply) h.transcript.0 m a e' b' m' (later o) (record { transcript = h.transcript.2; answer = h.answer; engine = h.engine; memory = h.memory }),
+  )
+  plays_so (read x f) b m a e' b' m' o h =
+      plays_so (f (get_or m x 0)) b m a e' b' m' o (record { transcript = h.transcript; answer = h.answer; engine = h.engine; memory = h.memory })
+  plays_so (write x v p) b m a e' b' m' o h =
+      plays_so p b (set m x v) a e' b' m' o (record { transcript = h.transcript; answer = h.answer; engine = h.engine; memory = h.memory })
 
   pub step_isolated : (e : Engine) → Sound e → (b : B) (m : List ℕ) (a : Answer) (e' : Engine) (b' : B) (m' : List ℕ) → Plays see did (step e) b m a e' b' m' → StepIsolated see did e b m a e' b' m'
   step_isolated e s b m a e' b' m' h =
@@ -93,3 +121,35 @@ module _ {B : Type 0} (see : B → Shown) (did : B → Call → Reply → B → 
   run_isolated n e s b m made end e' b' m' h =
       let i = run_played end e' b' m' (λ _. record { shown = see b; reply = done }) n e b m made h in
       record { answers = i.0; here = i.1; there = λ k l. run_by_values n e s i.0 m k l }
+
+---- on what a bus means
+
+-- answers that never come to pass
+abbrev no_more : BusState → Answers
+no_more b i = record { shown = b.shown; reply = done }
+
+pub runs_as_played : RunsAsPlayed
+runs_as_played = record {
+  played = λ p b m a w r. let i = played (λ b. b.shown) Did a w.engine w.bus w.memory (no_more b) p b m r in (i.0, i.1);
+  runs = λ p b m a w o. plays_so (λ b. b.shown) Did p b m a w.engine w.bus w.memory o;
+}
+
+pub run_as_played : RunAsPlayed
+run_as_played n w made end w' = run_played (λ b. b.shown) Did end w'.engine w'.bus w'.memory (no_more w.bus) n w.engine w.bus w.memory made
+
+pub same_on_every_bus : SameOnEveryBus
+same_on_every_bus e s b m n a w h r =
+    let i = runs_as_played.played (step e) b m a w r in
+    let q : play i.0 (step e) m ≡ play i.0 (step e) n = step_by_values e s i.0 m n h in
+    record {
+      answers = i.0;
+      here = i.1;
+      same = q;
+      there = runs_as_played.runs (step e) b n a (record { engine = w.engine; bus = w.bus; memory = writes (play i.0 (step e) n).written n }) i.0
+          (record {
+            transcript = subst (λ (p : Played). HappensBy (λ b. b.shown) Did p.transcript b w.bus) q i.1.transcript;
+            answer = i.1.answer ∙ ap (λ (p : Played). p.answer) q;
+            engine = i.1.engine ∙ ap (λ (p : Played). p.engine) q;
+            memory = refl;
+          });
+    }

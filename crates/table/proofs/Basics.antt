@@ -1,5 +1,7 @@
 -- Facts on slots by number, chains, names and first bytes. Assumes nothing.
 use Rattle.std.proofs.Common.{◌≡◌, ℕ, zero, suc, ◌+◌, ◌-◌, ◌<◌, ◌≤◌, Bool, true, false, cond, not, ◌&&◌, ◌||◌, eqb, leb, List, [], ◌∷◌, ◌++◌, length, take, Some, None, Option, sym, refl, ap, ◌∙◌, subst, add-one, arith, length-append}
+use Rattle.std.proofs.Math.Bool.{and-false, or-false}
+use Rattle.std.proofs.Math.Seq.{take-length, take-nil}
 use lib.Seq.{take-append-le}
 use Rattle.std.proofs.lemmas.Bool.{and_parts, and_from, or_parts, or_from, or_right, eqb-true, eqb-false, eq-eqb, ne_eqb, leb-true, le-leb, both_ways}
 use Rattle.shelf.specs.Serving.{firsts, outs}
@@ -146,19 +148,6 @@ first_of_some (j ∷ js) p k h = go (p j) refl (first_of_some js p k) h
         let r = ih h in
         (or_right (eqb k j) (stands_on k js) r.0, r.1)
 
--- bits
-pub no_and : (t : Bool) → (t && false) ≡ false
-no_and true = refl
-no_and false = refl
-
-pub or_true : (t : Bool) → (t || true) ≡ true
-or_true true = refl
-or_true false = refl
-
-pub or_false : (t : Bool) → (t || false) ≡ t
-or_false true = refl
-or_false false = refl
-
 -- chains
 pub nobody : (k : ℕ) → stands_on k [] ≡ false
 unfolding stands_on
@@ -198,7 +187,7 @@ stands_without j k (i ∷ is) = go (eqb i k) (eqb j k) (eqb j i) refl refl refl 
 
 pub stands_append : (j k : ℕ) (ks : List ℕ) → stands_on j (ks ++ k ∷ []) ≡ (stands_on j ks || eqb j k)
 unfolding stands_on
-stands_append j k [] = or_false (eqb j k)
+stands_append j k [] = or-false (eqb j k)
 stands_append j k (i ∷ is) = go (eqb j i) (stands_append j k is)
   where
     go : (t : Bool) → stands_on j (is ++ k ∷ []) ≡ (stands_on j is || eqb j k) → (t || stands_on j (is ++ k ∷ [])) ≡ ((t || stands_on j is) || eqb j k)
@@ -213,7 +202,7 @@ once_without k (j ∷ js) o = go (eqb j k) (once_without k js o.1)
   where
     go : (t : Bool) → Once (without k js) → Once (cond t (without k js) (j ∷ without k js))
     go true ih = ih
-    go false ih = (stands_without j k js ∙ ap (λ (t : Bool). not (eqb j k) && t) o.0 ∙ no_and (not (eqb j k)), ih)
+    go false ih = (stands_without j k js ∙ ap (λ (t : Bool). not (eqb j k) && t) o.0 ∙ and-false (not (eqb j k)), ih)
 
 pub once_append : (k : ℕ) (ks : List ℕ) → Once ks → stands_on k ks ≡ false → Once (ks ++ k ∷ [])
 once_append k [] o n = (nobody k, tt)
@@ -298,25 +287,17 @@ take_firsts s zero f h = go s h
     go (suc s) h = absurd (omega arith)
 take_firsts s (suc p) f h = go (eqb s (suc p)) refl (take_firsts s p f)
   where
-    all : (xs : List ℕ) → take (length xs) xs ≡ xs
-    all [] = refl
-    all (x ∷ xs) = ap (λ (r : List ℕ). x ∷ r) (all xs)
-
     go : (t : Bool) → eqb s (suc p) ≡ t → (s ≤ p → take s (firsts p f) ≡ firsts s f) → take s (firsts (suc p) f) ≡ firsts s f
     go true e ih =
         let q : s ≡ suc p = eqb-true s (suc p) e in
         subst (λ (i : ℕ). take i (firsts (suc p) f) ≡ firsts i f) (sym q)
-        (subst (λ (i : ℕ). take i (firsts (suc p) f) ≡ firsts (suc p) f) (length_firsts (suc p) f) (all (firsts (suc p) f)))
+        (subst (λ (i : ℕ). take i (firsts (suc p) f) ≡ firsts (suc p) f) (length_firsts (suc p) f) (take-length (firsts (suc p) f)))
     go false e ih =
         let ne = eqb-false s (suc p) e in
         let le : s ≤ p = omega arith in
         take-append-le s (firsts p f) (f p ∷ []) (rw (length_firsts p f) le) ∙ ih le
 
-take_none : (s : ℕ) → take {A = ℕ} s [] ≡ []
-take_none zero = refl
-take_none (suc s) = refl
-
 pub take_outs : (s p : ℕ) (w : Way) (f : ℕ → ℕ) → s ≤ p → take s (outs w p f) ≡ outs w s f
-take_outs s p Still f h = take_none s
-take_outs s p In f h = take_none s
+take_outs s p Still f h = take-nil s
+take_outs s p In f h = take-nil s
 take_outs s p Out f h = take_firsts s p f h

@@ -1,5 +1,6 @@
 -- Every call keeps the invariant. Assumes nothing.
-use Rattle.std.proofs.Common.{◌≡◌, ℕ, zero, suc, ◌+◌, ◌<◌, ◌≤◌, Bool, true, false, not, ◌&&◌, ◌||◌, leb, List, [], ◌∷◌, length, Ok, Err, Option, Result, sym, refl, ap, ◌∙◌, subst, arith}
+use Rattle.std.proofs.Common.{◌≡◌, ℕ, zero, suc, ◌+◌, ◌<◌, ◌≤◌, Bool, true, false, not, ◌&&◌, ◌||◌, leb, List, [], ◌∷◌, length, Some, Ok, Err, Option, Result, sym, refl, ap, ◌∙◌, subst, arith}
+use Rattle.std.proofs.Math.Bool.{and-false}
 use mathlib.Core.Path.{fun_ext}
 use Rattle.std.proofs.lemmas.Bool.{and_parts, eqb-true, eq-eqb, ne_eqb, leb-true}
 use Rattle.scsi.specs.Commands.{well_sized}
@@ -17,14 +18,13 @@ use Rattle.slots.specs.declared.slot.State.TheVariants.{Free, Waiting, Connected
 use Rattle.slots.specs.declared.answer.Answer.{Answer}
 use Rattle.slots.specs.declared.answer.Collected.{Collected}
 use Rattle.slots.specs.declared.answer.End.{End}
-use Rattle.slots.specs.Numbers.{byte_number}
 use Rattle.table.specs.Engine.{Entry, Engine, Line, idle, greeted, named, tag_due, held, in_use, is_open, is_waiting, is_finished, is_done, is_in, tagged, name_for, same_unit, numbered, stands_on, put_slot, with_state, reset_where}
 use Rattle.table.specs.Script.{World, Runs}
 use Rattle.table.specs.Table.{greeted_byte, named_byte, tag_byte, row}
 use Rattle.table.specs.Calls.{collect_answer, collect_engine, Collects, open_or_waiting, reset_engine, Resets, When, Row, fits, Steps, ends, end_by, is_end, Passes, Run, Writes, Event, step, run, collect, reset, owner}
 use Rattle.table.specs.Serving.{Kept, Serving, names, end_names, finished_at, reports, reports_done, serves_all, marks, hears_reports, lets_go, hears, at_number}
 use Rattle.table.specs.Guarantee.{AsServed, Answered, ReportedOnce, in_use_count}
-use Rattle.table.proofs.Basics.{no_and, nobody, stands_cons, wrong, put_cases, put_here, put_there, tally_one}
+use Rattle.table.proofs.Basics.{nobody, stands_cons, wrong, put_cases, put_here, put_there, tally_one}
 use Rattle.table.proofs.States.{open_used, busy_used, busy_unfinished, still_waiting, still_open, reset_at, greeted_unheld, named_unheld, tag_due_unheld}
 use Rattle.table.proofs.Invariant.{Book, Underway, HasNexus, Settled, Ended, Ties, Core, Inv, Apart, line_means}
 use Rattle.table.proofs.Keeping.{book_keeps, granted, settled_on, Agrees}
@@ -128,19 +128,24 @@ quiet_step w a w₁ s i f q =
 -- a run: rows that end nothing report nothing, and the last one's reports are the run's
 passes_keep : (n : ℕ) (w : World) (s : Serving) → Inv w s → length w.memory ≡ w.engine.size → (made : ℕ) (end : End) (w' : World) → Passes n w made end w'
     → Inv w' (hears_reports (finished_at w.engine) (end_names end) w'.engine s) × ((k : ℕ) → end_names end k ≡ true → is_finished (w.engine.slots k).state ≡ false)
-passes_keep zero w s i fit made end w' (m, e, u) =
+passes_keep zero w s i fit made end w' (m, e, x, y, z) =
+    let u : w' ≡ w = λ j. record { engine = x j; bus = y j; memory = z j } in
     subst (λ (z : End). Inv w' (hears_reports (finished_at w.engine) (end_names z) w'.engine s) × ((k : ℕ) → end_names z k ≡ true → is_finished (w.engine.slots k).state ≡ false)) (sym e)
     (subst (λ (v : World). Inv v (hears_reports (finished_at w.engine) (λ k. false) v.engine s)) (sym u) (quiet_inv w.engine _ w s (λ k h. h) (λ k. refl) i), λ k h. wrong false h refl)
-passes_keep (suc n) w s i fit made end w' (a, w₁, r, d) =
+passes_keep (suc n) w s i fit made end w' (a, e₁, b₁, m₁, r, d) =
     let f = row_keeps w s i.core fit a w₁ r in
     go f (ends a) refl (λ i₁ fit₁ m p. passes_keep n w₁ s i₁ fit₁ m end w' p) d
   where
+    w₁ : World
+    w₁ = record { engine = e₁; bus = b₁; memory = m₁ }
+
     go : After w a w₁ s → (b : Bool) → ends a ≡ b
         → (Inv w₁ s → length w₁.memory ≡ w₁.engine.size → (m : ℕ) → Passes n w₁ m end w'
         → Inv w' (hears_reports (finished_at w₁.engine) (end_names end) w'.engine s) × ((k : ℕ) → end_names end k ≡ true → is_finished (w₁.engine.slots k).state ≡ false))
-        → When b ((made ≡ 1) × (end ≡ end_by a) × (w' ≡ w₁)) ((m : ℕ) × (made ≡ suc m) × Passes n w₁ m end w')
+        → When b ((made ≡ 1) × (end ≡ end_by a) × (w'.engine ≡ e₁) × (w'.bus ≡ b₁) × (w'.memory ≡ m₁)) ((m : ℕ) × (made ≡ suc m) × Passes n w₁ m end w')
         → Inv w' (hears_reports (finished_at w.engine) (end_names end) w'.engine s) × ((k : ℕ) → end_names end k ≡ true → is_finished (w.engine.slots k).state ≡ false)
-    go f true q ih (m, e, u) =
+    go f true q ih (m, e, x, y, z) =
+        let u : w' ≡ w₁ = λ j. record { engine = x j; bus = y j; memory = z j } in
         subst (λ (z : End). Inv w' (hears_reports (finished_at w.engine) (end_names z) w'.engine s) × ((k : ℕ) → end_names z k ≡ true → is_finished (w.engine.slots k).state ≡ false)) (sym e)
         (subst (λ (v : World). Inv v (hears_reports (finished_at w.engine) (names a) v.engine s)) (sym u) (after_inv w a w₁ s i f), f.turn.once)
     go f false q ih (m, e, u) =
@@ -198,7 +203,7 @@ reset_calls w s i w' d =
     undone : (k : ℕ) → reports_done (finished_at w.engine) (λ k. false) w'.engine k ≡ false
     undone k = at (λ (y : Entry). (((is_finished y.state && not (is_finished (w.engine.slots k).state)) || false) && is_done y.state) ≡ false) k
         (reset_at (λ (y : Entry). (((is_finished y.state && not (is_finished (w.engine.slots k).state)) || false) && is_done y.state) ≡ false) open_or_waiting (w.engine.slots k)
-        (λ _. no_and ((true && not (is_finished (w.engine.slots k).state)) || false))
+        (λ _. and-false ((true && not (is_finished (w.engine.slots k).state)) || false))
         (λ _. ap (λ (b : Bool). b && is_done (w.engine.slots k).state) (never (is_finished (w.engine.slots k).state) false refl)))
 
     told_now : (k : ℕ) → (reports (finished_at w.engine) (λ k. false) w'.engine k || s.reported k) ≡ is_finished (w'.engine.slots k).state
@@ -339,7 +344,7 @@ collect_calls w s i k a w' d = go (w.engine.slots k).state refl d.answer d.after
           free_chain = put_cases (λ (j : ℕ) (y : Entry). stands_on j (k ∷ w.engine.free) ≡ (numbered j && not (in_use y.state))) k gone w.engine.slots
               (stands_cons k k w.engine.free ∙ ap (λ (t : Bool). t || stands_on k w.engine.free) (eq-eqb k k refl) ∙ sym (ap (λ (t : Bool). t && true) (b.range k (ap in_use q))))
               (λ j ne. stands_cons j k w.engine.free ∙ ap (λ (t : Bool). t || stands_on j w.engine.free) (ne_eqb j k ne) ∙ b.free_chain j);
-          free_once = (b.free_chain k ∙ ap (λ (t : State). numbered k && not (in_use t)) q ∙ no_and (numbered k), b.free_once);
+          free_once = (b.free_chain k ∙ ap (λ (t : State). numbered k && not (in_use t)) q ∙ and-false (numbered k), b.free_once);
           waiting_chain = put_cases (λ (j : ℕ) (y : Entry). stands_on j w.engine.waiting ≡ is_waiting y.state) k gone w.engine.slots (b.waiting_chain k ∙ ap is_waiting q) (λ j ne. b.waiting_chain j);
           kept = put_cases (λ (j : ℕ) (y : Entry). in_use y.state ≡ true → (s.kept j).command ≡ y.command) k gone w.engine.slots (λ h. wrong false h refl) (λ j ne. b.kept j);
           counted = let num = and_parts (leb 1 k) (leb k 16) (b.range k (ap in_use q)) in
@@ -356,10 +361,10 @@ collect_calls w s i k a w' d = go (w.engine.slots k).state refl d.answer d.after
               (λ _ h. wrong false h refl) (λ v nv. b.apart u v) j) i;
         }
 
-    done_part : (o : Outcome) → Ended o (w.engine.slots k) w.memory (s.kept k) (s.results k) → o ≡ Done → (byte_number (w.engine.slots k).status ≡ (s.results k).status) × ((w.engine.slots k).current ≡ (s.results k).count)
-    done_part o h z = let g : AsServed (w.engine.slots k) w.memory (s.kept k) (s.results k) = subst (λ (v : Outcome). Ended v (w.engine.slots k) w.memory (s.kept k) (s.results k)) z h in (ap byte_number g.status, g.count)
+    done_part : (o : Outcome) → Ended o (w.engine.slots k) w.memory (s.kept k) (s.results k) → o ≡ Done → ((w.engine.slots k).status ≡ Some (s.results k).status) × ((w.engine.slots k).current ≡ (s.results k).count)
+    done_part o h z = let g : AsServed (w.engine.slots k) w.memory (s.kept k) (s.results k) = subst (λ (v : Outcome). Ended v (w.engine.slots k) w.memory (s.kept k) (s.results k)) z h in (g.status, g.count)
 
-    granted_one : (o : Outcome) → (w.engine.slots k).state ≡ Finished o → Called (collect k (Ok (record { outcome = o; status = byte_number (w.engine.slots k).status; count = (w.engine.slots k).current }))) w w'' s
+    granted_one : (o : Outcome) → (w.engine.slots k).state ≡ Finished o → Called (collect k (Ok (record { outcome = o; status = (w.engine.slots k).status; count = (w.engine.slots k).current }))) w w'' s
     granted_one o q =
         record {
           inv = quiet_inv w.engine (λ k. false) w'' (lets_go k s) (fin o q) (λ k. refl)
@@ -385,4 +390,4 @@ collect_calls w s i k a w' d = go (w.engine.slots k).state refl d.answer d.after
     go Connected q p r = same p r
     go Away q p r = same p r
     go (Finished o) q p r = subst (λ (z : Result Collected ℕ). Called (collect k z) w w' s) (sym p)
-        (subst (λ (v : World). Called (collect k (Ok (record { outcome = o; status = byte_number (w.engine.slots k).status; count = (w.engine.slots k).current }))) w v s) (sym r) (granted_one o q))
+        (subst (λ (v : World). Called (collect k (Ok (record { outcome = o; status = (w.engine.slots k).status; count = (w.engine.slots k).current }))) w v s) (sym r) (granted_one o q))

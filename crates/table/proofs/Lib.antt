@@ -20,5 +20,4 @@ pub mod Views
 pub mod Walks
 pub mod Linking
 pub mod Meanings
-pub mod Meant
 pub mod Worked

@@ -82,7 +82,7 @@ module _ (w : World) (s : Serving) (c : Core w s) (off : Unheld w.engine.line) w
       → (a : Answer) (w' : World) → Runs (connecting e k) b w.memory a w' → After w a w' s
   connecting_keeps k aw bg b g a w' r =
       ending r
-      (plainly w (Told k) _ s (refl, refl) (still e (Told k) e' fin (λ j. refl)) (λ j d. sym (fin j) ∙ done_finished _ d)
+      (plainly w (Told (Some k)) _ s (refl, refl) (still e (Told (Some k)) e' fin (λ j. refl)) (λ j d. sym (fin j) ∙ done_finished _ d)
       (record {
         order = g.2;
         shows = g.1;
@@ -137,10 +137,10 @@ module _ (w : World) (s : Serving) (c : Core w s) (off : Unheld w.engine.line) w
   pub named_keeps : (t l v : ℕ) → e.line ≡ named t l → w.bus.shown ≡ MessageIn v → (a : Answer) (w' : World) → Runs (named_byte e t l v) w.bus w.memory a w' → After w a w' s
   named_keeps t l v q h a w' r = go (eqb v 32) refl r
     where
-      go : (u : Bool) → eqb v 32 ≡ u → Runs (cond u (Script.ask Call.take (λ _. Script.return (Told 0) (set_line (tag_due t l) e))) (violation e (MessageIn v))) w.bus w.memory a w' → After w a w' s
+      go : (u : Bool) → eqb v 32 ≡ u → Runs (cond u (Script.ask Call.take (λ _. Script.return (Told None) (set_line (tag_due t l) e))) (violation e (MessageIn v))) w.bus w.memory a w' → After w a w' s
       go true u (y, b', d, r) =
           let g = took_greeting t (bus_named l) v (c.ties.line ∙ ap (line_means e) q) h d in
-          ending r (lined (Told 0) (λ j. refl) (tag_due t l) (tag_due_unheld t l) (sym (c.ties.begun ∙ ap begun_means q)) b' (g.0.1, g.1, g.2))
+          ending r (lined (Told None) (λ j. refl) (tag_due t l) (tag_due_unheld t l) (sym (c.ties.begun ∙ ap begun_means q)) b' (g.0.1, g.1, g.2))
       go false u r = violates w.bus c.order refl (MessageIn v) a w' r
 
   pub tag_keeps : (t l v : ℕ) → e.line ≡ tag_due t l → w.bus.shown ≡ MessageIn v → (a : Answer) (w' : World) → Runs (tag_byte e t l v) w.bus w.memory a w' → After w a w' s
@@ -230,7 +230,7 @@ module _ (w : World) (s : Serving) (c : Core w s) (off : Unheld w.engine.line) w
               let tg' : tagged (e.slots own.0).command.manner ≡ true = must_tag _ _ aw un in
               let gs : g.0.1 ≡ Some own.0 = sym (ap (λ (n : Name). n.tag) own.2) ∙ tagged_name own.0 _ tg' in
               ending r
-              (lined (Told 0) (λ j. refl) (named t (v - 128)) (named_unheld t (v - 128)) (sym bg) b'
+              (lined (Told None) (λ j. refl) (named t (v - 128)) (named_unheld t (v - 128)) (sym bg) b'
               (after_line ∙ ap (λ (o : Option ℕ). with_line (comes_back t g.0.0 o) cable) gs ∙ ap (λ (i : ℕ). with_line (retaken t (bus_named i)) cable) (sym lv), g.1, g.2))
             where
               must_tag : (p r : Bool) → p ≡ true → (p && not r) ≡ false → r ≡ true

@@ -1,14 +1,16 @@
 -- Slots put on a chain and taken off it, by their next numbers. Assumes nothing.
-use Rattle.std.proofs.Common.{◌≡◌, ℕ, ◌-◌, ◌≤◌, Bool, true, false, cond, not, ◌&&◌, eqb, List, [], ◌∷◌, ◌++◌, length, take, set, sym, refl, ap, ◌∙◌, subst, length-set}
+use Rattle.std.proofs.Common.{◌≡◌, ℕ, ◌-◌, ◌≤◌, Bool, true, false, cond, not, ◌&&◌, eqb, List, [], ◌∷◌, ◌++◌, length, set, sym, refl, ap, ◌∙◌, subst, length-set}
+use Rattle.std.proofs.Math.Bool.{and-false}
 use mathlib.Core.Path.{fun_ext}
 use Rattle.std.proofs.lemmas.Bool.{and_parts, not-true, eqb-true}
+use Rattle.arrayvec.specs.ArrayVec.{ArrayVec}
 use Rattle.slots.specs.declared.line.Line.{Line as KeptLine}
 use Rattle.slots.specs.declared.slot.Slot.{Slot}
 use Rattle.slots.specs.declared.slot.Slots.{Slots}
 use Rattle.table.specs.Engine.{Entry, in_use, is_waiting, numbered, stands_on, without, put_slot, set_slot}
 use Rattle.table.specs.Sound.{Once, Sound}
 use Rattle.table.specs.View.{entry_of, slot_at, entries, nexts, chain, line_of, view, Linked, Links, before}
-use Rattle.table.proofs.Basics.{wrong, numbered_is, no_and, nobody, stands_head, stands_tail, once_without, once_append, put_here, put_there}
+use Rattle.table.proofs.Basics.{wrong, numbered_is, nobody, stands_head, stands_tail, once_without, once_append, put_here, put_there}
 use Rattle.table.proofs.States.{waiting_is, free_is}
 use Rattle.table.proofs.Chains.{set_next, links_off, put_back, last_of, append_links, unlink_head, unlink_links, chain_is, chain_short, at_most_16, on_last, on_before, without_other}
 use Rattle.table.proofs.Views.{entries_written, nexts_written, next_here, entry_here, linked_by}
@@ -49,7 +51,7 @@ module _ (s : Slots) (n : length s.slots ≡ 16) (h : Linked s) (o : Sound (view
 
   -- which slots stand on no chain, or on one of them alone
   off_free : (k : ℕ) → in_use ((view s).slots k).state ≡ true → stands_on k (view s).free ≡ false
-  off_free k u = o.free_chain k ∙ ap (λ (t : Bool). numbered k && not t) u ∙ no_and (numbered k)
+  off_free k u = o.free_chain k ∙ ap (λ (t : Bool). numbered k && not t) u ∙ and-false (numbered k)
 
   on_free : (k : ℕ) → stands_on k (view s).free ≡ true → (numbered k ≡ true) × (in_use ((view s).slots k).state ≡ false)
   on_free k u = let p = and_parts (numbered k) _ (sym (o.free_chain k) ∙ u) in (p.0, not-true _ p.1)
@@ -59,9 +61,9 @@ module _ (s : Slots) (n : length s.slots ≡ 16) (h : Linked s) (o : Sound (view
 
   ---- a slot on no chain is put at the free head
 
-  module _ (k : ℕ) (x : Slot) (l : KeptLine) (b : ℕ) (u : in_use ((view s).slots k).state ≡ true) (w : is_waiting ((view s).slots k).state ≡ false) (q : x.next ≡ s.free) where
+  module _ (k : ℕ) (x : Slot) (l : KeptLine) (b : ArrayVec ℕ) (u : in_use ((view s).slots k).state ≡ true) (w : is_waiting ((view s).slots k).state ≡ false) (q : x.next ≡ s.free) where
     abbrev put_fields : Slots
-    put_fields = record { slots = set s.slots (k - 1) x; free = k; waiting = s.waiting; line = l; begun = s.begun; heard = b; size = s.size }
+    put_fields = record { slots = set s.slots (k - 1) x; free = k; waiting = s.waiting; line = l; begun = b; size = s.size }
 
     put_so : Fields put_fields (put_slot k (entry_of x) (view s).slots) (set_next k s.free f) (k ∷ (view s).free) (view s).waiting
     put_so =
@@ -75,7 +77,7 @@ module _ (s : Slots) (n : length s.slots ≡ 16) (h : Linked s) (o : Sound (view
           waiting_once = o.waiting_once;
         }
 
-    pub view_put_back : view put_fields ≡ record { slots = put_slot k (entry_of x) (view s).slots; free = k ∷ (view s).free; waiting = (view s).waiting; line = line_of l (take b s.begun); size = s.size }
+    pub view_put_back : view put_fields ≡ record { slots = put_slot k (entry_of x) (view s).slots; free = k ∷ (view s).free; waiting = (view s).waiting; line = line_of l b.items; size = s.size }
     view_put_back = viewed put_fields _ _ _ _ put_so
 
     pub linked_put_back : Linked put_fields
@@ -99,7 +101,7 @@ module _ (s : Slots) (n : length s.slots ≡ 16) (h : Linked s) (o : Sound (view
     -- the waiting chain was empty
     module _ (e : (view s).waiting ≡ []) where
       abbrev first_fields : Slots
-      first_fields = record { slots = set s.slots (k - 1) x; free = (slot_at s.slots k).next; waiting = k; line = s.line; begun = s.begun; heard = s.heard; size = s.size }
+      first_fields = record { slots = set s.slots (k - 1) x; free = (slot_at s.slots k).next; waiting = k; line = s.line; begun = s.begun; size = s.size }
 
       first_so : Fields first_fields (put_slot k (entry_of x) (view s).slots) (set_next k 0 f) ks (k ∷ [])
       first_so =
@@ -129,7 +131,6 @@ module _ (s : Slots) (n : length s.slots ≡ 16) (h : Linked s) (o : Sound (view
         waiting = s.waiting;
         line = s.line;
         begun = s.begun;
-        heard = s.heard;
         size = s.size;
       }
 
@@ -188,7 +189,7 @@ module _ (s : Slots) (n : length s.slots ≡ 16) (h : Linked s) (o : Sound (view
   -- it is the head
   module _ (k : ℕ) (ks : List ℕ) (q : (view s).waiting ≡ k ∷ ks) where
     abbrev head_fields : Slots
-    head_fields = record { slots = s.slots; free = s.free; waiting = (slot_at s.slots k).next; line = s.line; begun = s.begun; heard = s.heard; size = s.size }
+    head_fields = record { slots = s.slots; free = s.free; waiting = (slot_at s.slots k).next; line = s.line; begun = s.begun; size = s.size }
 
     head_so : Fields head_fields (view s).slots f (view s).free (without k (view s).waiting)
     head_so =
@@ -214,7 +215,7 @@ module _ (s : Slots) (n : length s.slots ≡ 16) (h : Linked s) (o : Sound (view
   module _ (k d : ℕ) (ds : List ℕ) (y : Slot) (q : (view s).waiting ≡ d ∷ ds) (nd : k ≡ d → ⊥) (on : stands_on k ds ≡ true)
       (yk : y.next ≡ (slot_at s.slots k).next) (ye : entry_of y ≡ entry_of (slot_at s.slots (before k d ds))) where
     abbrev unlink_fields : Slots
-    unlink_fields = record { slots = set s.slots (before k d ds - 1) y; free = s.free; waiting = s.waiting; line = s.line; begun = s.begun; heard = s.heard; size = s.size }
+    unlink_fields = record { slots = set s.slots (before k d ds - 1) y; free = s.free; waiting = s.waiting; line = s.line; begun = s.begun; size = s.size }
 
     waits : (j : ℕ) → stands_on j (d ∷ ds) ≡ true → in_use ((view s).slots j).state ≡ true
     waits j t = ap in_use (waiting_is _ (sym (o.waiting_chain j) ∙ ap (stands_on j) q ∙ t))
@@ -254,10 +255,10 @@ module _ (s : Slots) (n : length s.slots ≡ 16) (h : Linked s) (o : Sound (view
 
 ---- a slot on no chain is written, whatever its next number
 
-module _ (s : Slots) (n : length s.slots ≡ 16) (h : Linked s) (k : ℕ) (x : Slot) (l : KeptLine) (b : ℕ) (a : 1 ≤ k) (c : k ≤ 16)
+module _ (s : Slots) (n : length s.slots ≡ 16) (h : Linked s) (k : ℕ) (x : Slot) (l : KeptLine) (b : ArrayVec ℕ) (a : 1 ≤ k) (c : k ≤ 16)
     (nf : stands_on k (view s).free ≡ false) (nw : stands_on k (view s).waiting ≡ false) where
   abbrev off_fields : Slots
-  off_fields = record { slots = set s.slots (k - 1) x; free = s.free; waiting = s.waiting; line = l; begun = s.begun; heard = b; size = s.size }
+  off_fields = record { slots = set s.slots (k - 1) x; free = s.free; waiting = s.waiting; line = l; begun = b; size = s.size }
 
   off_links : (i : ℕ) → stands_on k (chain 16 (nexts s.slots) i) ≡ false → Links (nexts s.slots) i (chain 16 (nexts s.slots) i)
       → Links (nexts off_fields.slots) i (chain 16 (nexts s.slots) i)
@@ -268,12 +269,12 @@ module _ (s : Slots) (n : length s.slots ≡ 16) (h : Linked s) (k : ℕ) (x : S
       → chain 16 (nexts off_fields.slots) i ≡ chain 16 (nexts s.slots) i
   same_chain i t r = chain_is 16 (nexts off_fields.slots) i (chain 16 (nexts s.slots) i) (off_links i t r) (chain_short 16 (nexts s.slots) i)
 
-  pub view_off : view off_fields ≡ set_slot k (entry_of x) (line_of l (take b s.begun)) (view s)
+  pub view_off : view off_fields ≡ set_slot k (entry_of x) (line_of l b.items) (view s)
   view_off = λ i. record {
     slots = entries_written s.slots k x a c n i;
     free = same_chain s.free nf h.free i;
     waiting = same_chain s.waiting nw h.waiting i;
-    line = line_of l (take b s.begun);
+    line = line_of l b.items;
     size = s.size;
   }
 

@@ -1,5 +1,5 @@
 -- DONE is reached: one command over a bus that keeps the rules. Assumes nothing.
-use Rattle.std.proofs.Common.{◌≡◌, ℕ, true, false, List, [], ◌∷◌, None, Ok, sym, refl, ap, arith}
+use Rattle.std.proofs.Common.{◌≡◌, ℕ, true, false, List, [], ◌∷◌, Some, None, Ok, sym, refl, ap, arith}
 use Rattle.scsi.specs.Greetings.{greeting_of}
 use Rattle.shelf.specs.Model.{Model}
 use Rattle.shelf.specs.Laws.{Laws}
@@ -123,8 +123,8 @@ did₄ = record {
 abbrev calls : List Step
 calls =
     record { event = step (Ok (FinishedAnswer 1)); after = record { engine = e₅; bus = bus₄; memory = [] } }
-    ∷ record { event = step (Ok (Told 1)); after = record { engine = e₄; bus = bus₃; memory = [] } }
-    ∷ record { event = step (Ok (Told 1)); after = record { engine = e₃; bus = bus₂; memory = [] } }
+    ∷ record { event = step (Ok (Told (Some 1))); after = record { engine = e₄; bus = bus₃; memory = [] } }
+    ∷ record { event = step (Ok (Told (Some 1))); after = record { engine = e₃; bus = bus₂; memory = [] } }
     ∷ record { event = step (Ok (Selected 1)); after = record { engine = e₂; bus = bus₁; memory = [] } }
     ∷ record { event = submit asked (Ok 1); after = record { engine = e₁; bus = bus₀; memory = [] } }
     ∷ []
@@ -142,12 +142,12 @@ done_is_reached = record {
       (
         (
           (tt, record { answer = refl; after = refl }),
-          (Selected 1, refl, (selected, bus₁, did₁, (refl, refl))),
+          (Selected 1, refl, (selected, bus₁, did₁, (refl, refl, refl, refl))),
         ),
-        (Told 1, refl, (done, bus₂, did₂, (refl, refl))),
+        (Told (Some 1), refl, (done, bus₂, did₂, (refl, refl, refl, refl))),
       ),
-      (Told 1, refl, (took 0, bus₃, did₃, (refl, refl))),
+      (Told (Some 1), refl, (took 0, bus₃, did₃, (refl, refl, refl, refl))),
     ),
-    (FinishedAnswer 1, refl, (took 0, bus₄, did₄, (refl, refl))),
+    (FinishedAnswer 1, refl, (took 0, bus₄, did₄, (refl, refl, refl, refl))),
   );
 }

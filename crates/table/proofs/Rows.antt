@@ -291,7 +291,7 @@ module _ (w : World) (s : Serving) (c : Core w s) (k : ℕ) (bs : List ℕ) (q :
       let i : InOrder w.bus (Call.command x.command.bytes) y b' = granted d c.order (ap (λ (v : Shown). not (shows_command v && well_sized x.command.bytes)) h ∙ ap not (c.book.well k (open_used _ opened))) in
       let eq : b'.cable ≡ change n (sent x.command.bytes) cable = i.rule ∙ ap (λ (l : BusLine). on_holder (λ o. change o (sent x.command.bytes)) l cable) on_line in
       ending r
-      (staying (Told k) (λ j. refl) (with_sent x) (sent x.command.bytes) (change n (sent x.command.bytes) cable) b' w.memory
+      (staying (Told (Some k)) (λ j. refl) (with_sent x) (sent x.command.bytes) (change n (sent x.command.bytes) cable) b' w.memory
       on refl (eq, i.shows, i.order) refl refl on_line (begun_so ∙ z) refl (λ j ne u a la. refl)
       (commanded cable.shelf cable.nexuses _ w.memory x (s.kept k).bytes has.nexus has.underway on sh.0 sh.1))
 
@@ -301,7 +301,7 @@ module _ (w : World) (s : Serving) (c : Core w s) (k : ℕ) (bs : List ℕ) (q :
   status_keeps v h z None t a w' (y, b', d, r) =
       let g = took_it (Status v) v h refl d in
       ending r
-      (staying (Told k) (λ j. refl) (with_status v x) (ended v) (change n (ended v) cable) b' w.memory
+      (staying (Told (Some k)) (λ j. refl) (with_status v x) (ended v) (change n (ended v) cable) b' w.memory
       on refl g refl refl on_line (begun_so ∙ z) refl (λ j ne u a la. refl)
       (status_taken cable.shelf cable.nexuses _ w.memory x (s.kept k).bytes has.nexus has.underway k v on has.here (may (Status v) h z)
       (change_here n (ended v) cable has.nexus has.here) (λ m t. put_other n _ cable.nexuses m t)))
@@ -328,10 +328,10 @@ module _ (w : World) (s : Serving) (c : Core w s) (k : ℕ) (bs : List ℕ) (q :
 
   -- only the begun message changes
   relined : (bs' : List ℕ) (b' : BusState) → (b'.cable ≡ with_begun bs' cable) × Shows b' × (b'.order ≡ true)
-      → After w (Told k) (record { engine = set_line (held k bs') e; bus = b'; memory = w.memory }) s
+      → After w (Told (Some k)) (record { engine = set_line (held k bs') e; bus = b'; memory = w.memory }) s
   relined bs' b' g =
-      subst (λ (f : ℕ → Entry). After w (Told k) (record { engine = record { slots = f; free = e.free; waiting = e.waiting; line = held k bs'; size = e.size }; bus = b'; memory = w.memory }) s) put_same
-      (going (Told k) (λ j. refl) x (held k bs') (λ y. y) (with_begun bs' cable) b' w.memory opened refl (λ _. (bs', refl)) (λ j l h. (held_is h, on))
+      subst (λ (f : ℕ → Entry). After w (Told (Some k)) (record { engine = record { slots = f; free = e.free; waiting = e.waiting; line = held k bs'; size = e.size }; bus = b'; memory = w.memory }) s) put_same
+      (going (Told (Some k)) (λ j. refl) x (held k bs') (λ y. y) (with_begun bs' cable) b' w.memory opened refl (λ _. (bs', refl)) (λ j l h. (held_is h, on))
       g.2 g.1 g.0 refl same_nexuses on_line refl refl (λ j ne u a la. refl) has.underway)
 
   -- a message spoken that aborts nothing, refused or not
@@ -363,15 +363,15 @@ module _ (w : World) (s : Serving) (c : Core w s) (k : ℕ) (bs : List ℕ) (q :
   uttered v Utters.extends h b g a w' r = ending r (relined (1 ∷ []) b g)
   uttered v (Utters.saving d t) h b g a w' r =
       ending (subst (λ (o : Option ℕ). Runs (by_heard e k x (2 ∷ []) Save o) b w.memory a w') (sym has.underway.status ∙ h) r)
-      (staying (Told k) (λ j. refl) (with_pointers x.current x.current x) saves (with_begun [] (change n saves cable)) b w.memory on refl g refl refl on_line refl refl (λ j ne u a la. refl)
+      (staying (Told (Some k)) (λ j. refl) (with_pointers x.current x.current x) saves (with_begun [] (change n saves cable)) b w.memory on refl g refl refl on_line refl refl (λ j ne u a la. refl)
       (saving cable.shelf cable.nexuses _ w.memory x (s.kept k).bytes has.nexus has.underway on h))
   uttered v (Utters.restoring d t) h b g a w' r =
       ending (subst (λ (o : Option ℕ). Runs (by_heard e k x (3 ∷ []) Restore o) b w.memory a w') (sym has.underway.status ∙ h) r)
-      (staying (Told k) (λ j. refl) (with_pointers x.saved x.saved x) restored (with_begun [] (change n restored cable)) b w.memory on refl g refl refl on_line refl refl (λ j ne u a la. refl)
+      (staying (Told (Some k)) (λ j. refl) (with_pointers x.saved x.saved x) restored (with_begun [] (change n restored cable)) b w.memory on refl g refl refl on_line refl refl (λ j ne u a la. refl)
       (restoring cable.shelf cable.nexuses _ w.memory x (s.kept k).bytes has.nexus has.underway on h))
   uttered v (Utters.leaving d t l) h b g a w' r =
       ending (subst (λ (o : Option ℕ). Runs (by_heard e k x (4 ∷ []) Disconnect o) b w.memory a w') (sym has.underway.status ∙ h) r)
-      (going (Told k) (λ j. refl) (with_state Away x) idle restored (leaves n cable) b w.memory refl refl (λ z. absurd (away_on z)) (λ j bs' z. absurd (idle_unheld j bs' z))
+      (going (Told (Some k)) (λ j. refl) (with_state Away x) idle restored (leaves n cable) b w.memory refl refl (λ z. absurd (away_on z)) (λ j bs' z. absurd (idle_unheld j bs' z))
       g.2 g.1 g.0 refl refl refl refl refl (λ j ne u a la. refl)
       (leaving cable.shelf cable.nexuses _ w.memory x (s.kept k).bytes has.nexus has.underway h))
     where
@@ -576,7 +576,7 @@ module _ (w : World) (s : Serving) (c : Core w s) (k : ℕ) (bs : List ℕ) (q :
   pub speaks_nothing : w.bus.shown ≡ MessageOut → (a : Answer) (w' : World) → Runs (held_by e k x MessageOut) w.bus w.memory a w' → After w a w' s
   speaks_nothing h a w' (y, b', d, r) =
       let g = spoken w.bus b' y 8 refl c.shows c.order d in
-      ending r (resting w s (Told k) b' c (λ j. refl) g.0 g.1 g.2)
+      ending r (resting w s (Told (Some k)) b' c (λ j. refl) g.0 g.1 g.2)
 
   pub held_keeps : (sh : Shown) → w.bus.shown ≡ sh → bs ≡ [] → length w.memory ≡ e.size
       → (a : Answer) (w' : World) → Runs (held_by e k x sh) w.bus w.memory a w' → After w a w' s

@@ -1,5 +1,6 @@
 -- Soundness over every list of calls, on every bus. Assumes nothing.
 use Rattle.std.proofs.Common.{◌≡◌, ℕ, zero, suc, Bool, true, false, not, ◌&&◌, ◌||◌, List, [], ◌∷◌, ◌++◌, length, get_or, set, Some, None, Ok, Err, Option, sym, refl, ap, ◌∙◌, subst, arith, length-set, get_or-set_other}
+use Rattle.std.proofs.Math.Bool.{and-false, or-false, or-true}
 use Rattle.std.proofs.lemmas.Bool.{and_parts, eq-eqb, ne_eqb, not-true}
 use Rattle.bus.specs.State.{BusState}
 use Rattle.slots.specs.declared.slot.State.{State}
@@ -12,7 +13,7 @@ use Rattle.table.specs.Table.{step as table_step}
 use Rattle.table.specs.Calls.{end_by, Request, command_asked, earlier_refusal, just_accepted, taken_in, submit_engine, put_back, collect_engine, open_or_waiting, reset_engine, When, Row, fits, ends, Passes, Event, submit, step, run, collect, reset, owner, Does, at_end}
 use Rattle.table.specs.Sound.{Once, Sound, SoundOnEveryBus}
 use Rattle.table.specs.Regions.{InRegion, Within, SameRegions, OnlyInside, StepWritesInside, RunWritesInside}
-use Rattle.table.proofs.Basics.{wrong, put_cases, put_there, no_and, or_true, or_false, nobody, stands_cons, stands_append, once_append}
+use Rattle.table.proofs.Basics.{wrong, put_cases, put_there, nobody, stands_cons, stands_append, once_append}
 use Rattle.table.proofs.States.{free_is, busy_used, still_waiting, reset_at, idle_unheld}
 use Rattle.table.proofs.Theorem.{numbers, all_once}
 use Rattle.table.proofs.Regions.{keeps_to_regions}
@@ -21,21 +22,21 @@ use Rattle.table.proofs.Isolated.{in_same}
 -- what a script leaves
 module _ (R W : ℕ → Type 0) (E : Engine → Type 0) (a : Answer) (w : World) where
   leaves : (p : Script) → Within R W E p → (b : BusState) (m : List ℕ) → Runs p b m a w → E w.engine
-  leaves (return c e) h b m r = subst (λ (v : World). E v.engine) (sym r.1) h
+  leaves (return c e) h b m r = subst E (sym r.1) h
   leaves (look f) h b m r = leaves (f b.shown) (h b.shown) b m r
   leaves (ask c f) h b m r = leaves (f r.0) (h r.0) r.1 m r.3
   leaves (read x f) h b m r = leaves (f (get_or m x 0)) (h.1 (get_or m x 0)) b m r
   leaves (write x v p) h b m r = leaves p h.1 b (set m x v) r
 
   untouched : (p : Script) → Within R W E p → (b : BusState) (m : List ℕ) → Runs p b m a w → (i : ℕ) → (W i → ⊥) → get_or w.memory i 0 ≡ get_or m i 0
-  untouched (return c e) h b m r i n = ap (λ (v : World). get_or v.memory i 0) r.1
+  untouched (return c e) h b m r i n = ap (λ (l : List ℕ). get_or l i 0) r.3
   untouched (look f) h b m r i n = untouched (f b.shown) (h b.shown) b m r i n
   untouched (ask c f) h b m r i n = untouched (f r.0) (h r.0) r.1 m r.3 i n
   untouched (read x f) h b m r i n = untouched (f (get_or m x 0)) (h.1 (get_or m x 0)) b m r i n
   untouched (write x v p) h b m r i n = untouched p h.1 b (set m x v) r i n ∙ get_or-set_other m x i v 0 (λ e. n (subst W (sym e) h.0))
 
   as_long : (p : Script) → (b : BusState) (m : List ℕ) → Runs p b m a w → length w.memory ≡ length m
-  as_long (return c e) b m r = ap (λ (v : World). length v.memory) r.1
+  as_long (return c e) b m r = ap length r.3
   as_long (look f) b m r = as_long (f b.shown) b m r
   as_long (ask c f) b m r = as_long (f r.0) r.1 m r.3
   as_long (read x f) b m r = as_long (f (get_or m x 0)) b m r
@@ -53,23 +54,29 @@ pub row_sound : (w : World) → Sound w.engine → (a : Answer) (w' : World) →
 row_sound w o a w' r = leaves (InRegion is_out w.engine) (InRegion is_in w.engine) (λ e'. Sound e' × SameRegions w.engine e') a w' (table_step w.engine) (keeps_to_regions w.engine o) w.bus w.memory r
 
 passes_sound : (n : ℕ) (w : World) → Sound w.engine → (made : ℕ) (end : End) (w' : World) → Passes n w made end w' → Sound w'.engine
-passes_sound zero w o made end w' (m, e, u) = subst (λ (v : World). Sound v.engine) (sym u) o
-passes_sound (suc n) w o made end w' (a, w₁, r, d) = go (ends a) (λ m p. passes_sound n w₁ (row_sound w o a w₁ r).0 m end w' p) d
+passes_sound zero w o made end w' r = subst Sound (sym r.2) o
+passes_sound (suc n) w o made end w' (a, e₁, b₁, m₁, r, d) = go (ends a) (λ m p. passes_sound n w₁ (row_sound w o a w₁ r).0 m end w' p) d
   where
-    go : (b : Bool) → ((m : ℕ) → Passes n w₁ m end w' → Sound w'.engine) → When b ((made ≡ 1) × (end ≡ end_by a) × (w' ≡ w₁)) ((m : ℕ) × (made ≡ suc m) × Passes n w₁ m end w') → Sound w'.engine
-    go true ih (m, e, u) = subst (λ (v : World). Sound v.engine) (sym u) (row_sound w o a w₁ r).0
+    w₁ : World
+    w₁ = record { engine = e₁; bus = b₁; memory = m₁ }
+
+    go : (b : Bool) → ((m : ℕ) → Passes n w₁ m end w' → Sound w'.engine) → When b ((made ≡ 1) × (end ≡ end_by a) × (w'.engine ≡ e₁) × (w'.bus ≡ b₁) × (w'.memory ≡ m₁)) ((m : ℕ) × (made ≡ suc m) × Passes n w₁ m end w') → Sound w'.engine
+    go true ih h = subst Sound (sym h.2) (row_sound w o a w₁ r).0
     go false ih (m, e, p) = ih m p
 
 inside_on : (e e₁ : Engine) (m m₁ m₂ : List ℕ) → SameRegions e e₁ → OnlyInside e m m₁ → OnlyInside e₁ m₁ m₂ → OnlyInside e m m₂
 inside_on e e₁ m m₁ m₂ s h g = record { long = g.long ∙ h.long; kept = λ i n. g.kept i (λ q. n (in_same is_in e e₁ s i q)) ∙ h.kept i n }
 
 pub run_writes_inside : RunWritesInside
-run_writes_inside zero w o made end w' (m, e, u) = record { long = ap (λ (v : World). length v.memory) u; kept = λ i n. ap (λ (v : World). get_or v.memory i 0) u }
-run_writes_inside (suc n) w o made end w' (a, w₁, r, d) = go (ends a) (λ m p. run_writes_inside n w₁ (row_sound w o a w₁ r).0 m end w' p) d
+run_writes_inside zero w o made end w' r = record { long = ap length r.4; kept = λ i n. ap (λ (l : List ℕ). get_or l i 0) r.4 }
+run_writes_inside (suc n) w o made end w' (a, e₁, b₁, m₁, r, d) = go (ends a) (λ m p. run_writes_inside n w₁ (row_sound w o a w₁ r).0 m end w' p) d
   where
+    w₁ : World
+    w₁ = record { engine = e₁; bus = b₁; memory = m₁ }
+
     go : (b : Bool) → ((m : ℕ) → Passes n w₁ m end w' → OnlyInside w₁.engine w₁.memory w'.memory)
-        → When b ((made ≡ 1) × (end ≡ end_by a) × (w' ≡ w₁)) ((m : ℕ) × (made ≡ suc m) × Passes n w₁ m end w') → OnlyInside w.engine w.memory w'.memory
-    go true ih (m, e, u) = subst (λ (v : World). OnlyInside w.engine w.memory v.memory) (sym u) (step_writes_inside w o a w₁ r)
+        → When b ((made ≡ 1) × (end ≡ end_by a) × (w'.engine ≡ e₁) × (w'.bus ≡ b₁) × (w'.memory ≡ m₁)) ((m : ℕ) × (made ≡ suc m) × Passes n w₁ m end w') → OnlyInside w.engine w.memory w'.memory
+    go true ih h = subst (OnlyInside w.engine w.memory) (sym h.4) (step_writes_inside w o a w₁ r)
     go false ih (m, e, p) = inside_on w.engine w₁.engine w.memory w₁.memory w'.memory (row_sound w o a w₁ r).1 (step_writes_inside w o a w₁ r) (ih m p)
 
 module _ (e : Engine) (o : Sound e) where
@@ -78,12 +85,12 @@ module _ (e : Engine) (o : Sound e) where
   taken_sound c (k ∷ ks) q =
       record {
         range = put_cases (λ (j : ℕ) (y : Entry). in_use y.state ≡ true → numbered j ≡ true) k (just_accepted c) e.slots (λ _. on.0) (λ j ne. o.range j);
-        free_chain = put_cases (λ (j : ℕ) (y : Entry). stands_on j ks ≡ (numbered j && not (in_use y.state))) k (just_accepted c) e.slots (once.0 ∙ sym (no_and (numbered k)))
+        free_chain = put_cases (λ (j : ℕ) (y : Entry). stands_on j ks ≡ (numbered j && not (in_use y.state))) k (just_accepted c) e.slots (once.0 ∙ sym (and-false (numbered k)))
             (λ j ne. sym (ap (stands_on j) q ∙ stands_cons j k ks ∙ ap (λ (t : Bool). t || stands_on j ks) (ne_eqb j k ne)) ∙ o.free_chain j);
         free_once = once.1;
         waiting_chain = put_cases (λ (j : ℕ) (y : Entry). stands_on j (e.waiting ++ k ∷ []) ≡ is_waiting y.state) k (just_accepted c) e.slots
-            (stands_append k k e.waiting ∙ ap (λ (t : Bool). stands_on k e.waiting || t) (eq-eqb k k refl) ∙ or_true (stands_on k e.waiting))
-            (λ j ne. stands_append j k e.waiting ∙ ap (λ (t : Bool). stands_on j e.waiting || t) (ne_eqb j k ne) ∙ or_false (stands_on j e.waiting) ∙ o.waiting_chain j);
+            (stands_append k k e.waiting ∙ ap (λ (t : Bool). stands_on k e.waiting || t) (eq-eqb k k refl) ∙ or-true (stands_on k e.waiting))
+            (λ j ne. stands_append j k e.waiting ∙ ap (λ (t : Bool). stands_on j e.waiting || t) (ne_eqb j k ne) ∙ or-false (stands_on j e.waiting) ∙ o.waiting_chain j);
         waiting_once = once_append k e.waiting o.waiting_once (o.waiting_chain k ∙ ap is_waiting (free_is _ on.1));
         holding = λ j bs r. let h = o.holding j bs r in
             ap (λ (y : Entry). y.state) (put_there j k (just_accepted c) (e.slots j) (λ z. wrong (in_use (e.slots j).state) (ap in_use h) (ap (λ (i : ℕ). in_use (e.slots i).state) z ∙ on.1))) ∙ h;
@@ -110,7 +117,7 @@ module _ (e : Engine) (o : Sound e) where
         free_chain = put_cases (λ (j : ℕ) (y : Entry). stands_on j (k ∷ e.free) ≡ (numbered j && not (in_use y.state))) k (with_state Free (e.slots k)) e.slots
             (stands_cons k k e.free ∙ ap (λ (t : Bool). t || stands_on k e.free) (eq-eqb k k refl) ∙ sym (ap (λ (t : Bool). t && true) (o.range k (ap in_use q))))
             (λ j ne. stands_cons j k e.free ∙ ap (λ (t : Bool). t || stands_on j e.free) (ne_eqb j k ne) ∙ o.free_chain j);
-        free_once = (o.free_chain k ∙ ap (λ (t : State). numbered k && not (in_use t)) q ∙ no_and (numbered k), o.free_once);
+        free_once = (o.free_chain k ∙ ap (λ (t : State). numbered k && not (in_use t)) q ∙ and-false (numbered k), o.free_once);
         waiting_chain = put_cases (λ (j : ℕ) (y : Entry). stands_on j e.waiting ≡ is_waiting y.state) k (with_state Free (e.slots k)) e.slots (o.waiting_chain k ∙ ap is_waiting q) (λ j ne. o.waiting_chain j);
         waiting_once = o.waiting_once;
         holding = λ j bs h. let s = o.holding j bs h in

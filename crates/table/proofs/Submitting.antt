@@ -1,5 +1,6 @@
 -- Submit keeps the invariant. Assumes nothing.
 use Rattle.std.proofs.Common.{◌≡◌, ℕ, suc, ◌+◌, ◌-◌, ◌<◌, ◌≤◌, Bool, true, false, cond, not, ◌&&◌, ◌||◌, eqb, ltb, leb, List, [], ◌∷◌, ◌++◌, get_or, Some, None, Ok, Err, Option, Result, sym, refl, ap, ◌∙◌, subst, arith}
+use Rattle.std.proofs.Math.Bool.{and-false, or-false, or-true}
 use Rattle.std.proofs.lemmas.Bool.{and_parts, and_from, eq-eqb, ne_eqb, ltb-false, lt-ltb, leb-true, le-leb, not-true, not-false}
 use Rattle.scsi.specs.Commands.{well_sized}
 use Rattle.shelf.specs.declared.Way.{Way}
@@ -10,7 +11,7 @@ use Rattle.table.specs.Script.{World}
 use Rattle.table.specs.Calls.{Request, command_asked, share, clear_of, earlier_refusal, just_accepted, taken_in, ticket_or_7, submit_answer, submit_engine, Submits, submit}
 use Rattle.table.specs.Serving.{Kept, Serving, keeps, region_bytes, at_number}
 use Rattle.table.specs.Guarantee.{FullExactly, in_use_count}
-use Rattle.table.proofs.Basics.{no_and, or_true, or_false, nobody, stands_cons, wrong, put_cases, put_here, put_there, every_at, stands_append, tally_one, tally_full, tally_all}
+use Rattle.table.proofs.Basics.{nobody, stands_cons, wrong, put_cases, put_here, put_there, every_at, stands_append, tally_one, tally_full, tally_all}
 use Rattle.table.specs.Sound.{Once}
 use Rattle.table.proofs.States.{free_is}
 use Rattle.table.proofs.Invariant.{Book, Settled, Inv, Apart}
@@ -124,12 +125,12 @@ module _ (w : World) (s : Serving) (i : Inv w s) (r : Request) where
         record {
           range = put_cases (λ (j : ℕ) (y : Entry). in_use y.state ≡ true → numbered j ≡ true) k x' w.engine.slots (λ _. on_chain.0) (λ j ne. b.range j);
           free_chain = put_cases (λ (j : ℕ) (y : Entry). stands_on j ks ≡ (numbered j && not (in_use y.state))) k x' w.engine.slots
-              (rest_once.0 ∙ sym (no_and (numbered k)))
+              (rest_once.0 ∙ sym (and-false (numbered k)))
               (λ j ne. sym (ap (stands_on j) q ∙ stands_cons j k ks ∙ ap (λ (t : Bool). t || stands_on j ks) (ne_eqb j k ne)) ∙ b.free_chain j);
           free_once = rest_once.1;
           waiting_chain = put_cases (λ (j : ℕ) (y : Entry). stands_on j (w.engine.waiting ++ k ∷ []) ≡ is_waiting y.state) k x' w.engine.slots
-              (stands_append k k w.engine.waiting ∙ ap (λ (t : Bool). stands_on k w.engine.waiting || t) (eq-eqb k k refl) ∙ or_true (stands_on k w.engine.waiting))
-              (λ j ne. stands_append j k w.engine.waiting ∙ ap (λ (t : Bool). stands_on j w.engine.waiting || t) (ne_eqb j k ne) ∙ or_false (stands_on j w.engine.waiting) ∙ b.waiting_chain j);
+              (stands_append k k w.engine.waiting ∙ ap (λ (t : Bool). stands_on k w.engine.waiting || t) (eq-eqb k k refl) ∙ or-true (stands_on k w.engine.waiting))
+              (λ j ne. stands_append j k w.engine.waiting ∙ ap (λ (t : Bool). stands_on j w.engine.waiting || t) (ne_eqb j k ne) ∙ or-false (stands_on j w.engine.waiting) ∙ b.waiting_chain j);
           kept = put_cases (λ (j : ℕ) (y : Entry). in_use y.state ≡ true → (s'.kept j).command ≡ y.command) k x' w.engine.slots
               (λ _. ap (λ (p : Kept). p.command) (put_here k _ (s.kept k)))
               (λ j ne h. ap (λ (p : Kept). p.command) (put_there j k _ (s.kept j) ne) ∙ b.kept j h);
@@ -147,7 +148,7 @@ module _ (w : World) (s : Serving) (i : Inv w s) (r : Request) where
               (λ _ _ ne. absurd (ne refl))
               (λ c nc _ u _ d. share_apart _ _ _ _ (new_apart c u (ap (λ (t : Bool). t && is_out (w.engine.slots c).command.direction) (in_not_out _ d)))) v)
               (λ a na. put_cases (λ (c : ℕ) (z : Entry). in_use (w.engine.slots a).state ≡ true → in_use z.state ≡ true → (a ≡ c → ⊥) → is_in (w.engine.slots a).command.direction ≡ true → Apart (w.engine.slots a).command z.command) k x' w.engine.slots
-              (λ u _ _ d i j l m z. share_apart _ _ _ _ (new_apart a u (ap (λ (t : Bool). is_out cmd.direction && t) (in_not_out _ d) ∙ no_and (is_out cmd.direction))) j i m l (sym z))
+              (λ u _ _ d i j l m z. share_apart _ _ _ _ (new_apart a u (ap (λ (t : Bool). is_out cmd.direction && t) (in_not_out _ d) ∙ and-false (is_out cmd.direction))) j i m l (sym z))
               (λ c nc. b.apart a c) v) u;
         }
 

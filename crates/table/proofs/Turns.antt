@@ -14,9 +14,10 @@ use Rattle.bus.specs.Kinds.{kind_of}
 use Rattle.slots.specs.declared.slot.State.{State}
 use Rattle.slots.specs.declared.slot.State.TheVariants.{Connected}
 use Rattle.slots.specs.declared.answer.Answer.{Answer}
+use Rattle.slots.specs.Numbers.{holder_slot}
 use Rattle.table.specs.Engine.{Entry, Engine, Line, idle, greeted, named, tag_due, held, in_use, is_open, is_waiting, is_finished, is_done, stands_on, reset_where}
 use Rattle.table.specs.Script.{World, Script, Runs}
-use Rattle.table.specs.Table.{pausing, message_row, violation, violated_layer, holder, pointer, fault, cleared, byte_told}
+use Rattle.table.specs.Table.{pausing, message_row, violation, violated_layer, holder_now, fault, cleared, byte_told}
 use Rattle.table.specs.Calls.{ends}
 use Rattle.table.specs.Serving.{Kept, Serving, names, finished_at, reports, reports_done, serves, serves_all, marks, hears_reports}
 use Rattle.table.proofs.Basics.{wrong}
@@ -140,8 +141,9 @@ still e a e' h n =
     }
 
 -- where a script ends
-pub ending : {w : World} {s : Serving} {a a₀ : Answer} {w' w₀ : World} → (a ≡ a₀) × (w' ≡ w₀) → After w a₀ w₀ s → After w a w' s
-ending {w} {s} {a} {a₀} {w'} {w₀} e h = subst (λ (z : Answer). After w z w' s) (sym e.0) (subst (λ (v : World). After w a₀ v s) (sym e.1) h)
+pub ending : {w : World} {s : Serving} {a a₀ : Answer} {w' : World} {e : Engine} {b : BusState} {m : List ℕ}
+    → (a ≡ a₀) × (w'.engine ≡ e) × (w'.bus ≡ b) × (w'.memory ≡ m) → After w a₀ (record { engine = e; bus = b; memory = m }) s → After w a w' s
+ending {w} {s} h f = subst (λ (x : Answer × World). After w x.0 x.1 s) (λ i. (sym h.0 i, record { engine = sym h.1 i; bus = sym h.2 i; memory = sym h.3 i })) f
 
 ---- a bus reset, with the commands that pass a test finished RESET
 
@@ -187,7 +189,7 @@ violated w s a w' c b o sf sh (y, b', d, r) = ending r after
         go true h = wrong false h refl
         go false h = wrong false h refl
 
-    holder_connected : (l : Line) → e.line ≡ l → (j : ℕ) → (not (eqb j 0) && eqb j (holder l)) ≡ true → (e.slots j).state ≡ Connected
+    holder_connected : (l : Line) → e.line ≡ l → (j : ℕ) → (not (eqb j 0) && eqb j (holder_slot (holder_now e l))) ≡ true → (e.slots j).state ≡ Connected
     holder_connected idle q j h = absurd (nobody_told j h)
     holder_connected (greeted t) q j h = absurd (nobody_told j h)
     holder_connected (named t l) q j h = absurd (nobody_told j h)
@@ -195,7 +197,7 @@ violated w s a w' c b o sf sh (y, b', d, r) = ending r after
     holder_connected (held k bs) q j h =
         subst (λ (n : ℕ). (e.slots n).state ≡ Connected) (sym (told_is k j h)) (c.ties.holding k bs q)
 
-    turn : Turn e (fault (violated_layer sh) sh (holder e.line) (pointer e e.line)) (cleared e)
+    turn : Turn e (fault (violated_layer sh) sh (holder_now e e.line)) (cleared e)
     turn =
         record {
           mono = fin;
@@ -205,7 +207,7 @@ violated w s a w' c b o sf sh (y, b', d, r) = ending r after
           quiet = λ h. wrong true refl h;
         }
 
-    after : After w (fault (violated_layer sh) sh (holder e.line) (pointer e e.line)) (record { engine = cleared e; bus = b'; memory = w.memory }) s
+    after : After w (fault (violated_layer sh) sh (holder_now e e.line)) (record { engine = cleared e; bus = b'; memory = w.memory }) s
     after = plainly w _ _ s (refl, refl) turn
         (λ j. reset_at (λ (y : Entry). is_done y.state ≡ true → is_finished (e.slots j).state ≡ true) is_open (e.slots j)
         (λ _ h. wrong false h refl) (λ _ h. done_finished _ h))

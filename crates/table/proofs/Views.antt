@@ -1,7 +1,8 @@
 -- Fields written, and what that is to the engine of the step table. Assumes nothing.
-use Rattle.std.proofs.Common.{◌≡◌, ℕ, zero, suc, ◌-◌, ◌≤◌, Bool, true, false, cond, eqb, List, [], ◌∷◌, map, length, get_or, take, set, None, sym, refl, ap, ◌∙◌, subst, arith, get_or-set_other, get_or-set_same}
+use Rattle.std.proofs.Common.{◌≡◌, ℕ, zero, suc, ◌-◌, ◌≤◌, Bool, true, false, cond, eqb, List, [], ◌∷◌, map, length, get_or, set, None, sym, refl, ap, ◌∙◌, subst, arith, get_or-set_other, get_or-set_same}
 use mathlib.Core.Path.{fun_ext}
 use Rattle.std.proofs.lemmas.Bool.{eqb-true, eqb-false}
+use Rattle.arrayvec.specs.ArrayVec.{ArrayVec}
 use Rattle.slots.specs.declared.line.Line.{Line as KeptLine}
 use Rattle.slots.specs.declared.line.Line.TheVariants.{Idle}
 use Rattle.slots.specs.declared.slot.Slot.{Slot}
@@ -52,14 +53,14 @@ pub entry_here : (xs : List Slot) (k : ℕ) → 1 ≤ k → k ≤ 16 → entries
 entry_here xs k a b = ap (λ (t : Bool). cond t (entry_of (slot_at xs k)) (entry_of no_slot)) (is_numbered k a b)
 
 -- slot k written, its next number kept
-pub view_set : (s : Slots) (k : ℕ) (x : Slot) (l : KeptLine) (h : ℕ) → 1 ≤ k → k ≤ 16 → length s.slots ≡ 16 → x.next ≡ (slot_at s.slots k).next
-    → view (record { slots = set s.slots (k - 1) x; free = s.free; waiting = s.waiting; line = l; begun = s.begun; heard = h; size = s.size })
-    ≡ set_slot k (entry_of x) (line_of l (take h s.begun)) (view s)
-view_set s k x l h a b n e = λ i. record {
-  slots = entries_written s.slots k x a b n i;
-  free = chain 16 (nexts_kept s.slots k x a b n e i) s.free;
-  waiting = chain 16 (nexts_kept s.slots k x a b n e i) s.waiting;
-  line = line_of l (take h s.begun);
+pub view_set : (s : Slots) (k : ℕ) (x : Slot) (l : KeptLine) (b : ArrayVec ℕ) → 1 ≤ k → k ≤ 16 → length s.slots ≡ 16 → x.next ≡ (slot_at s.slots k).next
+    → view (record { slots = set s.slots (k - 1) x; free = s.free; waiting = s.waiting; line = l; begun = b; size = s.size })
+    ≡ set_slot k (entry_of x) (line_of l b.items) (view s)
+view_set s k x l b lo hi n e = λ i. record {
+  slots = entries_written s.slots k x lo hi n i;
+  free = chain 16 (nexts_kept s.slots k x lo hi n e i) s.free;
+  waiting = chain 16 (nexts_kept s.slots k x lo hi n e i) s.waiting;
+  line = line_of l b.items;
   size = s.size;
 }
 
@@ -109,9 +110,9 @@ module _ (p : State → Bool) (z : p Free ≡ false) where
   nexts_reset xs = fun_ext (λ k. ap (λ (x : Slot). cond (numbered k) x.next 0) (reset_place xs (k - 1)))
 
 -- connected and away commands finished RESET, and the line idle
-pub view_cleared : (s : Slots) (xs : List Slot) (h : ℕ) → xs ≡ map (reset_slot is_open) s.slots
-    → view (record { slots = xs; free = s.free; waiting = s.waiting; line = Idle; begun = s.begun; heard = h; size = s.size }) ≡ cleared (view s)
-view_cleared s xs h e = λ i. record {
+pub view_cleared : (s : Slots) (xs : List Slot) (b : ArrayVec ℕ) → xs ≡ map (reset_slot is_open) s.slots
+    → view (record { slots = xs; free = s.free; waiting = s.waiting; line = Idle; begun = b; size = s.size }) ≡ cleared (view s)
+view_cleared s xs b e = λ i. record {
   slots = (ap entries e ∙ entries_reset is_open refl s.slots) i;
   free = chain 16 ((ap nexts e ∙ nexts_reset is_open refl s.slots) i) s.free;
   waiting = chain 16 ((ap nexts e ∙ nexts_reset is_open refl s.slots) i) s.waiting;
@@ -120,10 +121,10 @@ view_cleared s xs h e = λ i. record {
 }
 
 -- and waiting commands too
-pub view_reset : (s : Slots) (xs : List Slot) (h : ℕ) → xs ≡ map (reset_slot open_or_waiting) s.slots
-    → view (record { slots = xs; free = s.free; waiting = 0; line = Idle; begun = s.begun; heard = h; size = s.size }) ≡ reset_engine (view s)
+pub view_reset : (s : Slots) (xs : List Slot) (b : ArrayVec ℕ) → xs ≡ map (reset_slot open_or_waiting) s.slots
+    → view (record { slots = xs; free = s.free; waiting = 0; line = Idle; begun = b; size = s.size }) ≡ reset_engine (view s)
 unfolding chain
-view_reset s xs h e = λ i. record {
+view_reset s xs b e = λ i. record {
   slots = (ap entries e ∙ entries_reset open_or_waiting refl s.slots) i;
   free = chain 16 ((ap nexts e ∙ nexts_reset open_or_waiting refl s.slots) i) s.free;
   waiting = [];
@@ -135,7 +136,7 @@ pub linked_reset : (s s' : Slots) → s'.slots ≡ map (reset_slot open_or_waiti
 unfolding chain
 linked_reset s s' e f w l =
     record {
-      free = (linked_same s (record { slots = s'.slots; free = s'.free; waiting = s.waiting; line = s.line; begun = s.begun; heard = s.heard; size = s.size })
+      free = (linked_same s (record { slots = s'.slots; free = s'.free; waiting = s.waiting; line = s.line; begun = s.begun; size = s.size })
           (ap nexts e ∙ nexts_reset open_or_waiting refl s.slots) f refl l).free;
       waiting = subst (λ (i : ℕ). Links (nexts s'.slots) i (chain 16 (nexts s'.slots) i)) (sym w) refl;
     }
@@ -186,7 +187,7 @@ module _ (s : Slots) (q : s.slots ≡ fresh_slots) (f : s.free ≡ 1) (w : s.wai
   pub linked_fresh : Linked s
   unfolding chain
   linked_fresh =
-      subst (λ (t : List Slot × ℕ × ℕ). Linked (record { slots = t.0; free = t.1; waiting = t.2; line = s.line; begun = s.begun; heard = s.heard; size = s.size }))
+      subst (λ (t : List Slot × ℕ × ℕ). Linked (record { slots = t.0; free = t.1; waiting = t.2; line = s.line; begun = s.begun; size = s.size }))
       (λ i. (sym q i, sym f i, sym w i))
       (record { free = linked_by (nexts fresh_slots) 1 all_numbers all_linked (omega arith); waiting = refl })
 
@@ -197,7 +198,7 @@ module _ (s : Slots) (q : s.slots ≡ fresh_slots) (f : s.free ≡ 1) (w : s.wai
         slots = λ k. ap (λ (xs : List Slot). (entries xs k).state) q ∙ go k (numbered k);
         all_free = (λ i. chain 16 (nexts (q i)) (f i)) ∙ chain_is 16 (nexts fresh_slots) 1 all_numbers all_linked (omega arith);
         waiting = ap (chain 16 (nexts s.slots)) w;
-        line = ap (λ (k : KeptLine). line_of k (take s.heard s.begun)) l;
+        line = ap (λ (k : KeptLine). line_of k s.begun.items) l;
       }
     where
       go : (k : ℕ) (t : Bool) → (cond t (entry_of (slot_at fresh_slots k)) (entry_of no_slot)).state ≡ Free

@@ -16,7 +16,6 @@ use Rattle.slots.specs.declared.answer.Answer.TheVariants.{Idle, Waited, Lost, S
 use Rattle.slots.specs.declared.answer.End.{End}
 use Rattle.slots.specs.declared.answer.End.TheVariants.{Spent, Finished as FinishedEnd, Fault as FaultEnd}
 use Rattle.slots.specs.declared.answer.Collected.{Collected}
-use Rattle.slots.specs.Numbers.{byte_number}
 use Rattle.table.specs.Engine.{Command, Entry, idle, Engine, in_use, is_open, is_waiting, is_out, every, put_slot, with_state, reset_where}
 use Rattle.table.specs.Script.{Plays, World, Runs}
 use Rattle.table.specs.Table.{step as table_step}
@@ -119,7 +118,7 @@ collect_answer Free x = Err 9
 collect_answer Waiting x = Err 9
 collect_answer Connected x = Err 9
 collect_answer Away x = Err 9
-collect_answer (Finished o) x = Ok (record { outcome = o; status = byte_number x.status; count = x.current })
+collect_answer (Finished o) x = Ok (record { outcome = o; status = x.status; count = x.current })
 
 -- its slot is put at the free head
 abbrev pub put_back : ℕ → Engine → Engine
@@ -189,17 +188,15 @@ is_end (FaultEnd f) = true
 abbrev pub ends : Answer → Bool
 ends a = is_end (end_by a)
 
--- rows passed one after another, at most n
-abbrev pub Passes : ℕ → World → ℕ → End → World → Type 0
-Passes zero w made end w' = (made ≡ 0) × (end ≡ Spent) × (w' ≡ w)
-Passes (suc n) w made end w' = (a : Answer) × (w₁ : World) × Row w a w₁
-    × When (ends a) ((made ≡ 1) × (end ≡ end_by a) × (w' ≡ w₁)) ((m : ℕ) × (made ≡ suc m) × Passes n w₁ m end w')
-
--- the same on a bus of any type, by what it shows and what one call of it does
+-- rows played one after another, at most n, on a bus of any type, by what it shows and what one call of it does
 abbrev pub PlaysRun : {B : Type 0} → (B → Shown) → (B → Call → Reply → B → Type 0) → ℕ → Engine → B → List ℕ → ℕ → End → Engine → B → List ℕ → Type 0
 PlaysRun see did zero e b m made end e' b' m' = (made ≡ 0) × (end ≡ Spent) × (e' ≡ e) × (b' ≡ b) × (m' ≡ m)
 PlaysRun {B} see did (suc n) e b m made end e' b' m' = (a : Answer) × (e₁ : Engine) × (b₁ : B) × (m₁ : List ℕ) × Plays see did (table_step e) b m a e₁ b₁ m₁
     × When (ends a) ((made ≡ 1) × (end ≡ end_by a) × (e' ≡ e₁) × (b' ≡ b₁) × (m' ≡ m₁)) ((k : ℕ) × (made ≡ suc k) × PlaysRun see did n e₁ b₁ m₁ k end e' b' m')
+
+-- the same on what a bus means
+abbrev pub Passes : ℕ → World → ℕ → End → World → Type 0
+Passes n w made end w' = PlaysRun (λ b. b.shown) Did n w.engine w.bus w.memory made end w'.engine w'.bus w'.memory
 
 -- number 8 in the same way, after 0 steps; else rows, with how many they are
 abbrev pub Run : World → ℕ → ℕ → Result End ℕ → World → Type 0

@@ -28,7 +28,7 @@ pub record AsServed (x : Entry) (m : List ℕ) (kept : Kept) (r : Served) : Type
 
 -- what collect answers DONE with
 abbrev pub CollectServed : Result Collected ℕ → Served → Type 0
-CollectServed (Ok a) r = a.outcome ≡ Done → (a.status ≡ r.status) × (a.count ≡ r.count)
+CollectServed (Ok a) r = a.outcome ≡ Done → (a.status ≡ Some r.status) × (a.count ≡ r.count)
 CollectServed (Err n) r = Unit {0}
 
 abbrev pub in_use_count : Engine → ℕ

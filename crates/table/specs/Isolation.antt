@@ -101,51 +101,9 @@ StepByValues = (e : Engine) → Sound e → (o : Answers) (m n : List ℕ) → A
 abbrev pub RunByValues : Type 0
 RunByValues = (k : ℕ) (e : Engine) → Sound e → (o : Answers) (m n : List ℕ) → Alike (InRegion is_out e) m n → play_run k o e m ≡ play_run k o e n
 
----- what is played is what runs
+---- what a call did, on a bus of any type
 
--- these calls, one after another, on what a bus means
-abbrev pub Happens : List Exchange → BusState → BusState → Type 0
-Happens [] b b' = b' ≡ b
-Happens (looked s ∷ ts) b b' = (s ≡ b.shown) × Happens ts b b'
-Happens (asked c y ∷ ts) b b' = (b₁ : BusState) × Did b c y b₁ × Happens ts b₁ b'
-
--- what is played leaves this answer and this world
-pub record Leaves (p : Played) (b : BusState) (m : List ℕ) (a : Answer) (w : World) : Type 0 where
-  pub transcript : Happens p.transcript b w.bus
-  pub answer : a ≡ p.answer
-  pub engine : w.engine ≡ p.engine
-  pub memory : w.memory ≡ writes p.written m
-
--- a script runs on a bus exactly as it is played against some answers
-pub record RunsAsPlayed : Type 0 where
-  pub played : (p : Script) (b : BusState) (m : List ℕ) (a : Answer) (w : World) → Runs p b m a w → (o : Answers) × Leaves (play o p m) b m a w
-  pub runs : (p : Script) (b : BusState) (m : List ℕ) (a : Answer) (w : World) (o : Answers) → Leaves (play o p m) b m a w → Runs p b m a w
-
--- what is played as a run leaves this world, after so many steps, with this end
-pub record RunLeaves (r : Ran) (w : World) (made : ℕ) (end : End) (w' : World) : Type 0 where
-  pub transcript : Happens r.transcript w.bus w'.bus
-  pub steps : made ≡ r.made
-  pub ended : end ≡ r.end
-  pub engine : w'.engine ≡ r.engine
-  pub memory : w'.memory ≡ writes r.written w.memory
-
--- a run passes rows on a bus as it is played against some answers
-abbrev pub RunAsPlayed : Type 0
-RunAsPlayed = (n : ℕ) (w : World) (made : ℕ) (end : End) (w' : World) → Passes n w made end w' → (o : Answers) × RunLeaves (play_run n o w.engine w.memory) w made end w'
-
--- so on every bus: what a step does over one memory, it may do over another that is alike where it reads, by the same calls
-pub record SameWay (e : Engine) (b : BusState) (m : List ℕ) (a : Answer) (w : World) (n : List ℕ) : Type 0 where
-  pub answers : Answers
-  pub here : Leaves (play answers (step e) m) b m a w
-  pub same : play answers (step e) m ≡ play answers (step e) n
-  pub there : Runs (step e) b n a (record { engine = w.engine; bus = w.bus; memory = writes (play answers (step e) n).written n })
-
-abbrev pub SameOnEveryBus : Type 0
-SameOnEveryBus = (e : Engine) → Sound e → (b : BusState) (m n : List ℕ) (a : Answer) (w : World) → Alike (InRegion is_out e) m n → Runs (step e) b m a w → SameWay e b m a w n
-
----- what a call did, on a bus of any type, by what it shows and what one call of it does
-
--- these calls, one after another
+-- these calls, one after another, by what the bus shows and what one call of it does
 abbrev pub HappensBy : {B : Type 0} → (B → Shown) → (B → Call → Reply → B → Type 0) → List Exchange → B → B → Type 0
 HappensBy see did [] b b' = b' ≡ b
 HappensBy see did (looked s ∷ ts) b b' = (s ≡ see b) × HappensBy see did ts b b'
@@ -165,6 +123,37 @@ pub record RunLeavesBy {B : Type 0} (see : B → Shown) (did : B → Call → Re
   pub ended : end ≡ r.end
   pub engine : e' ≡ r.engine
   pub memory : m' ≡ writes r.written m
+
+---- what is played is what runs
+
+-- what is played leaves this answer and this world
+abbrev pub Leaves : Played → BusState → List ℕ → Answer → World → Type 0
+Leaves p b m a w = LeavesBy (λ b. b.shown) Did p b m a w.engine w.bus w.memory
+
+-- a script runs on a bus exactly as it is played against some answers
+pub record RunsAsPlayed : Type 0 where
+  pub played : (p : Script) (b : BusState) (m : List ℕ) (a : Answer) (w : World) → Runs p b m a w → (o : Answers) × Leaves (play o p m) b m a w
+  pub runs : (p : Script) (b : BusState) (m : List ℕ) (a : Answer) (w : World) (o : Answers) → Leaves (play o p m) b m a w → Runs p b m a w
+
+-- what is played as a run leaves this world, after so many steps, with this end
+abbrev pub RunLeaves : Ran → World → ℕ → End → World → Type 0
+RunLeaves r w made end w' = RunLeavesBy (λ b. b.shown) Did r w.bus w.memory made end w'.engine w'.bus w'.memory
+
+-- a run passes rows on a bus as it is played against some answers
+abbrev pub RunAsPlayed : Type 0
+RunAsPlayed = (n : ℕ) (w : World) (made : ℕ) (end : End) (w' : World) → Passes n w made end w' → (o : Answers) × RunLeaves (play_run n o w.engine w.memory) w made end w'
+
+-- so on every bus: what a step does over one memory, it may do over another that is alike where it reads, by the same calls
+pub record SameWay (e : Engine) (b : BusState) (m : List ℕ) (a : Answer) (w : World) (n : List ℕ) : Type 0 where
+  pub answers : Answers
+  pub here : Leaves (play answers (step e) m) b m a w
+  pub same : play answers (step e) m ≡ play answers (step e) n
+  pub there : Runs (step e) b n a (record { engine = w.engine; bus = w.bus; memory = writes (play answers (step e) n).written n })
+
+abbrev pub SameOnEveryBus : Type 0
+SameOnEveryBus = (e : Engine) → Sound e → (b : BusState) (m n : List ℕ) (a : Answer) (w : World) → Alike (InRegion is_out e) m n → Runs (step e) b m a w → SameWay e b m a w n
+
+---- a step or a run on a bus of any type that was isolated
 
 -- a step was played against some answers of the bus, and over every other memory of this size that is alike inside the regions of
 -- uncollected writing commands these answers give the same calls on the bus, answer, engine and bytes written

@@ -31,8 +31,4 @@ pub record World : Type 0 where
 
 -- a script run on what a bus means
 abbrev pub Runs : Script → BusState → List ℕ → Answer → World → Type 0
-Runs (return a e) b m r w = (r ≡ a) × (w ≡ record { engine = e; bus = b; memory = m })
-Runs (look f) b m r w = Runs (f b.shown) b m r w
-Runs (ask c f) b m r w = (y : Reply) × (b' : BusState) × Did b c y b' × Runs (f y) b' m r w
-Runs (read a f) b m r w = Runs (f (slice_index m a)) b m r w
-Runs (write a v p) b m r w = Runs p b (slice_set m a v) r w
+Runs p b m r w = Plays (λ b. b.shown) Did p b m r w.engine w.bus w.memory

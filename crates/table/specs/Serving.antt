@@ -6,6 +6,7 @@ use Rattle.slots.specs.declared.answer.Answer.{Answer}
 use Rattle.slots.specs.declared.answer.Collected.{Collected}
 use Rattle.slots.specs.declared.answer.End.{End}
 use Rattle.slots.specs.declared.answer.End.TheVariants.{Spent, Finished as FinishedEnd, Fault as FaultEnd}
+use Rattle.slots.specs.Numbers.{fault_slot}
 use Rattle.table.specs.Engine.{Command, Engine, is_finished, is_done}
 use Rattle.table.specs.Script.{World}
 use Rattle.table.specs.Calls.{command_asked, end_by, Event, submit, step, run, collect, reset, owner, Step, at_end}
@@ -20,7 +21,7 @@ is_told j k = not (k == 0) && k == j
 abbrev pub end_names : End → ℕ → Bool
 end_names Spent k = false
 end_names (FinishedEnd j) k = is_told j k
-end_names (FaultEnd f) k = is_told f.slot k
+end_names (FaultEnd f) k = is_told (fault_slot f) k
 
 abbrev pub names : Answer → ℕ → Bool
 names a k = end_names (end_by a) k

@@ -1,5 +1,6 @@
 -- The step table: which bus calls and memory accesses a step makes, and what it leaves and answers. Assumes nothing.
 use Rattle.std.specs.Prelude.{ℕ, suc, ◌+◌, ◌-◌, Bool, true, false, cond, not, ◌&&◌, ◌||◌, List, [], ◌∷◌, ◌++◌, Some, None, Option, ◌==◌, nat_le, nat_lt}
+use Rattle.std.specs.Option.{option_map}
 use Rattle.scsi.specs.Rows.{◌then◌, ◌else◌}
 use Rattle.scsi.specs.Messages.{Message, complete, save, restore, disconnect, abort, reject, no_operation, abort_tag, extended, sdtr, simple_tag, identify, other, message_of}
 use Rattle.scsi.specs.Greetings.{greeting_bytes}
@@ -15,6 +16,7 @@ use Rattle.slots.specs.declared.line.Heard.TheVariants.{Part, Complete, Save, Re
 use Rattle.slots.specs.declared.answer.Layer.{Layer}
 use Rattle.slots.specs.declared.answer.Layer.TheVariants.{Bus, Message as MessageLayer, Nexus, Pointer}
 use Rattle.slots.specs.declared.answer.Answer.{Answer}
+use Rattle.slots.specs.declared.answer.Holder.{Holder}
 use Rattle.slots.specs.declared.answer.Answer.TheVariants.{Idle, Waited, Lost, Selected, Accepted, Moved, Finished as FinishedAnswer, Told, Fault}
 use Rattle.slots.specs.Numbers.{byte_number}
 use Rattle.table.specs.Engine.{Command, Entry, Line, idle, greeted, named, tag_due, held, Engine, is_open, is_away, tagged, may_leave, tag_for, same_unit, is_in, is_out, numbered, every, seek, first_of, set_slot, unlink_slot, set_line, with_state, with_pointers, with_sent, with_status, reset_where}
@@ -26,27 +28,27 @@ use Rattle.table.specs.Script.{Script, return, look, ask, read, write}
 abbrev pub byte_told : Shown → ℕ
 byte_told s = byte_number (byte_shown s)
 
-abbrev pub fault : Layer → Shown → ℕ → ℕ → Answer
-fault l s k p = Fault (record { layer = l; kind = kind_of s; byte = byte_told s; slot = k; pointer = p })
+abbrev pub fault : Layer → Shown → Option Holder → Answer
+fault l s h = Fault (record { layer = l; shown = s; holder = h })
 
 -- a violation in kind 7 is the message layer's, any other the bus layer's
 abbrev pub violated_layer : Shown → Layer
 violated_layer s = cond (kind_of s == 7) MessageLayer Bus
 
--- the slot that holds the line, and its current pointer; 0 for none
-abbrev pub holder : Line → ℕ
-holder idle = 0
-holder (greeted t) = 0
-holder (named t l) = 0
-holder (tag_due t l) = 0
-holder (held k bs) = k
+-- the slot that holds the line
+abbrev pub holder : Line → Option ℕ
+holder idle = None
+holder (greeted t) = None
+holder (named t l) = None
+holder (tag_due t l) = None
+holder (held k bs) = Some k
 
-abbrev pub pointer : Engine → Line → ℕ
-pointer e idle = 0
-pointer e (greeted t) = 0
-pointer e (named t l) = 0
-pointer e (tag_due t l) = 0
-pointer e (held k bs) = (e.slots k).current
+-- with its current pointer
+abbrev pub holding : ℕ → Entry → Holder
+holding k x = record { slot = k; pointer = x.current }
+
+abbrev pub holder_now : Engine → Line → Option Holder
+holder_now e l = option_map (λ k. holding k (e.slots k)) (holder l)
 
 -- connected and away commands finished RESET, and the line idle
 abbrev pub cleared : Engine → Engine
@@ -54,7 +56,7 @@ cleared e = record { slots = λ k. reset_where is_open (e.slots k); free = e.fre
 
 -- what is not listed: reset the bus, finish all connected and away commands RESET, go idle, answer a fault
 abbrev pub violation : Engine → Shown → Script
-violation e s = ask reset (λ _. return (fault (violated_layer s) s (holder e.line) (pointer e e.line)) (cleared e))
+violation e s = ask reset (λ _. return (fault (violated_layer s) s (holder_now e e.line)) (cleared e))
 
 ---- in every state
 
@@ -115,7 +117,7 @@ idle_row e s =
 
 -- an away command is connected again, with current := saved
 abbrev pub connecting : Engine → ℕ → Script
-connecting e k = return (Told k) (set_slot k (with_state Connected (with_pointers (e.slots k).saved (e.slots k).saved (e.slots k))) (held k []) e)
+connecting e k = return (Told (Some k)) (set_slot k (with_state Connected (with_pointers (e.slots k).saved (e.slots k).saved (e.slots k))) (held k []) e)
 
 -- it is away, and of this target and LUN
 abbrev pub away_by : ℕ → ℕ → Entry → Bool
@@ -133,7 +135,7 @@ tagged_at e t l k = away_at e t l k && tagged (e.slots k).command.manner
 -- an untagged one is connected; for tagged ones 20h and a tag byte come first; with none it is a violation
 abbrev pub on_lun : Engine → ℕ → ℕ → ℕ → Option ℕ → Option ℕ → Script
 on_lun e t l v (Some k) o = connecting e k
-on_lun e t l v None (Some k) = return (Told 0) (set_line (named t l) e)
+on_lun e t l v None (Some k) = return (Told None) (set_line (named t l) e)
 on_lun e t l v None None = violation e (MessageIn v)
 
 -- 80h to 87h is taken
@@ -145,7 +147,7 @@ greeted_byte e t v =
 
 -- then 20h
 abbrev pub named_byte : Engine → ℕ → ℕ → ℕ → Script
-named_byte e t l v = cond (v == 0x20) (ask take (λ _. return (Told 0) (set_line (tag_due t l) e))) (violation e (MessageIn v))
+named_byte e t l v = cond (v == 0x20) (ask take (λ _. return (Told None) (set_line (tag_due t l) e))) (violation e (MessageIn v))
 
 -- then the tag, naming the slot
 abbrev pub tag_byte : Engine → ℕ → ℕ → ℕ → Script
@@ -163,7 +165,7 @@ abort_message c = cond (tagged c.manner) 0x0D 0x06
 
 -- the wrong direction, or a place past the region: abort, finish k, go idle, answer a fault
 abbrev pub abort_by : Engine → ℕ → Entry → Shown → Outcome → Script
-abort_by e k x s o = ask (speak (abort_message x.command ∷ [])) (λ _. return (fault Pointer s k x.current) (finish_by e k x o))
+abort_by e k x s o = ask (speak (abort_message x.command ∷ [])) (λ _. return (fault Pointer s (Some (holding k x))) (finish_by e k x o))
 
 -- the current pointer grows by one
 abbrev pub advance_by : Engine → ℕ → Entry → Engine
@@ -190,11 +192,11 @@ data_out_by e k x =
 -- COMMAND, once: the last argument is whether it was sent
 abbrev pub command_by : Engine → ℕ → Entry → Bool → Script
 command_by e k x true = violation e CommandOut
-command_by e k x false = ask (command x.command.bytes) (λ _. return (Told k) (set_slot k (with_sent x) (held k []) e))
+command_by e k x false = ask (command x.command.bytes) (λ _. return (Told (Some k)) (set_slot k (with_sent x) (held k []) e))
 
 -- STATUS, once: the last argument is the status that came
 abbrev pub status_by : Engine → ℕ → Entry → ℕ → Option ℕ → Script
-status_by e k x v None = ask take (λ _. return (Told k) (set_slot k (with_status v x) (held k []) e))
+status_by e k x v None = ask take (λ _. return (Told (Some k)) (set_slot k (with_status v x) (held k []) e))
 status_by e k x v (Some st) = violation e (Status v)
 
 -- what a message comes to; none is one that goes on
@@ -216,15 +218,15 @@ heard_of (Some (other b bs)) = Other
 
 -- a message that is not obeyed: MESSAGE REJECT
 abbrev pub rejecting : Engine → ℕ → Script
-rejecting e k = ask (speak (0x07 ∷ [])) (λ _. return (Told k) (set_line (held k []) e))
+rejecting e k = ask (speak (0x07 ∷ [])) (λ _. return (Told (Some k)) (set_line (held k []) e))
 
 -- a message acts at its last byte, by whether the status came; before it, its bytes are kept
 abbrev pub by_heard : Engine → ℕ → Entry → List ℕ → Heard → Option ℕ → Script
-by_heard e k x bs Part o = return (Told k) (set_line (held k bs) e)
-by_heard e k x bs Save None = return (Told k) (set_slot k (with_pointers x.current x.current x) (held k []) e)
-by_heard e k x bs Restore None = return (Told k) (set_slot k (with_pointers x.saved x.saved x) (held k []) e)
-by_heard e k x bs Disconnect None = return (Told k) (set_slot k (with_state Away x) idle e)
-by_heard e k x bs Reject None = return (Told k) (set_line (held k []) e)
+by_heard e k x bs Part o = return (Told (Some k)) (set_line (held k bs) e)
+by_heard e k x bs Save None = return (Told (Some k)) (set_slot k (with_pointers x.current x.current x) (held k []) e)
+by_heard e k x bs Restore None = return (Told (Some k)) (set_slot k (with_pointers x.saved x.saved x) (held k []) e)
+by_heard e k x bs Disconnect None = return (Told (Some k)) (set_slot k (with_state Away x) idle e)
+by_heard e k x bs Reject None = return (Told (Some k)) (set_line (held k []) e)
 by_heard e k x bs Complete None = rejecting e k
 by_heard e k x bs Other None = rejecting e k
 by_heard e k x bs Complete (Some st) = return (FinishedAnswer k) (finish_by e k x Done)
@@ -246,9 +248,9 @@ held_by e k x CommandOut = command_by e k x x.sent
 held_by e k x (Status v) = status_by e k x v x.status
 held_by e k x Reserved4 = violation e Reserved4
 held_by e k x Reserved5 = violation e Reserved5
-held_by e k x MessageOut = ask (speak (0x08 ∷ [])) (λ _. return (Told k) e)
+held_by e k x MessageOut = ask (speak (0x08 ∷ [])) (λ _. return (Told (Some k)) e)
 held_by e k x (MessageIn v) = message_by e k x (v ∷ [])
-held_by e k x FreeLine = return (fault Nexus FreeLine k x.current) (finish_by e k x Dropped)
+held_by e k x FreeLine = return (fault Nexus FreeLine (Some (holding k x))) (finish_by e k x Dropped)
 held_by e k x (Reselect t) = violation e (Reselect t)
 held_by e k x Pause = pausing e
 

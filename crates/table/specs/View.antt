@@ -1,5 +1,5 @@
 -- The engine of the step table as a function of the fields that the code keeps. Assumes nothing.
-use Rattle.std.specs.Prelude.{◌≡◌, ℕ, zero, suc, ◌-◌, Bool, true, false, cond, List, [], ◌∷◌, map, take, replicate, None, ◌==◌, slice_index_or}
+use Rattle.std.specs.Prelude.{◌≡◌, ℕ, zero, suc, ◌-◌, Bool, true, false, cond, List, [], ◌∷◌, map, None, ◌==◌, slice_index_or}
 use Rattle.scsi.specs.declared.cdb.Cdb.TheVariants.{Six}
 use Rattle.scsi.specs.Kept.{cdb_bytes}
 use Rattle.shelf.specs.declared.Way.TheVariants.{Still}
@@ -18,8 +18,8 @@ use Rattle.table.specs.Engine.{Command, Entry, Line, idle, greeted, named, tag_d
 
 abbrev pub command_of : Stored → Command
 command_of c = record {
-  target = c.target;
-  lun = c.lun;
+  target = c.unit.target;
+  lun = c.unit.lun;
   manner = c.manner;
   direction = c.direction;
   bytes = cdb_bytes c.bytes;
@@ -35,7 +35,7 @@ abbrev pub no_slot : Slot
 no_slot = record {
   next = 0;
   state = Free;
-  command = record { target = 0; lun = 0; manner = Plain; direction = Still; bytes = Six []; base = 0; length = 0 };
+  command = record { unit = record { target = 0; lun = 0 }; manner = Plain; direction = Still; bytes = Six []; base = 0; length = 0 };
   current = 0;
   saved = 0;
   sent = false;
@@ -75,8 +75,8 @@ before k d (j ∷ js) = cond (j == k) d (before k j js)
 abbrev pub line_of : KeptLine → List ℕ → Line
 line_of Idle bs = idle
 line_of (Greeted t) bs = greeted t
-line_of (Named t l) bs = named t l
-line_of (TagDue t l) bs = tag_due t l
+line_of (Named u) bs = named u.target u.lun
+line_of (TagDue u) bs = tag_due u.target u.lun
 line_of (Held k) bs = cond (numbered k) (held k bs) idle
 
 abbrev pub view : Slots → Engine
@@ -84,7 +84,7 @@ view s = record {
   slots = entries s.slots;
   free = chain 16 (nexts s.slots) s.free;
   waiting = chain 16 (nexts s.slots) s.waiting;
-  line = line_of s.line (take s.heard s.begun);
+  line = line_of s.line s.begun.items;
   size = s.size;
 }
 
@@ -100,7 +100,7 @@ abbrev pub fresh_slot : ℕ → Slot
 fresh_slot n = record {
   next = n;
   state = Free;
-  command = record { target = 0; lun = 0; manner = Plain; direction = Still; bytes = Six (0 ∷ 0 ∷ 0 ∷ 0 ∷ 0 ∷ 0 ∷ []); base = 0; length = 0 };
+  command = record { unit = record { target = 0; lun = 0 }; manner = Plain; direction = Still; bytes = Six (0 ∷ 0 ∷ 0 ∷ 0 ∷ 0 ∷ 0 ∷ []); base = 0; length = 0 };
   current = 0;
   saved = 0;
   sent = false;
@@ -113,7 +113,7 @@ fresh_slots = map fresh_slot (2 ∷ 3 ∷ 4 ∷ 5 ∷ 6 ∷ 7 ∷ 8 ∷ 9 ∷ 10
 
 -- all that an engine just made keeps, for a memory of this size
 abbrev pub fresh_fields : ℕ → Slots
-fresh_fields n = record { slots = fresh_slots; free = 1; waiting = 0; line = Idle; begun = replicate 258 0; heard = 0; size = n }
+fresh_fields n = record { slots = fresh_slots; free = 1; waiting = 0; line = Idle; begun = record { items = [] }; size = n }
 
 -- finished RESET, where its state passes the test
 abbrev pub reset_slot : (State → Bool) → Slot → Slot

@@ -12,7 +12,7 @@ pub enum Heard {
     TagDue,
 }
 
-/// The line: free, being retaken by the nexus of a row, or held by it.
+/// The line: free, being retaken by the nexus of a row, or held by it. Rows go by their numbers, since the bus has no heap.
 #[derive(Clone, Copy, PartialEq, Eq, Debug)]
 pub enum Line {
     Free,

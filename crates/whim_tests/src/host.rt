@@ -5,7 +5,7 @@ use crate::adler::Adler;
 use bus::{Bus, Selection, Shown};
 use scsi::Greeting;
 
-/// What the host asks for, in turn and round and round: target, LUN, leave, tag, command.
+/// What the host asks for, in turn and round and round: target, LUN, leave, tag, command. Unnamed, so that the table has a line for each.
 #[derive(Clone, Copy)]
 struct Order(u8, u8, bool, Option<u8>, [u8; 6]);
 

@@ -1,46 +1,52 @@
-use Rattle.std.proofs.Common.{◌≡◌, ℕ, suc, ◌+◌, ◌-◌, ◌<◌, true, false, ◌⊎◌, List, sym, ◌∙◌, subst, inl, inr, arith}
-use Rattle.std.proofs.lemmas.Bool.{eq-eqb, ne_eqb}
+use Rattle.std.proofs.Common.{◌≡◌, ℕ, suc, ◌+◌, ◌-◌, ◌<◌, true, false, eqb, List, sym, ap, ◌∙◌, subst, arith}
+use Rattle.std.proofs.lemmas.Bool.{not-true, not-false}
 use Rattle.slots.specs.declared.slot.Slot.{Slot}
 use Rattle.table.specs.Engine.{numbered}
 use Rattle.table.specs.View.{chain, nexts, before, slot_at}
 use Rattle.table.proofs.Walks.{numbered_next, before_goes, before_here, before_last}
+use Rattle.engine.proofs.Numbers.{place_numbered, read_place, new_some, new_none}
 use Rattle.engine.proofs.chains.before.Goals as goal
 
--- one turn at d, with 15 - i turns left
-module _ (xs : List Slot) (k d i x : ℕ) (e : numbered d ≡ true) (l : i < 15) (h : before k d (chain (15 - i) (nexts xs) (nexts xs d)) ≡ x) where
-  left : 15 - i ≡ suc (15 - (i + 1))
-  left = omega arith
-
+-- one turn at d, whose next number is m, with 15 - i turns left
+module _ (xs : List Slot) (k d m i x : ℕ) (e : numbered d ≡ true) (q : m ≡ (slot_at xs d).next) (l : i < 15) (h : before k d (chain (15 - i) (nexts xs) (nexts xs d)) ≡ x) where
   here : before k d (chain (suc (15 - (i + 1))) (nexts xs) (nexts xs d)) ≡ x
-  here = subst (λ (n : ℕ). before k d (chain n (nexts xs) (nexts xs d)) ≡ x) left h
+  here = let left : 15 - i ≡ suc (15 - (i + 1)) = omega arith in subst (λ (n : ℕ). before k d (chain n (nexts xs) (nexts xs d)) ≡ x) left h
 
-  goes : numbered (slot_at xs d).next ≡ true → ((slot_at xs d).next ≡ k → ⊥) → before k (slot_at xs d).next (chain (15 - (i + 1)) (nexts xs) (nexts xs (slot_at xs d).next)) ≡ x
-  goes m n = before_goes (nexts xs) k d (slot_at xs d).next (numbered_next xs d e) (15 - (i + 1)) m (ne_eqb _ k n) ∙ here
+  next : nexts xs d ≡ m
+  next = numbered_next xs d e ∙ sym q
 
-  stops : (numbered (slot_at xs d).next ≡ false) ⊎ ((slot_at xs d).next ≡ k) → d ≡ x
-  stops (inl m) = sym (before_last (nexts xs) k d (slot_at xs d).next (numbered_next xs d e) (suc (15 - (i + 1))) m) ∙ here
-  stops (inr q) = sym (before_here (nexts xs) k d (slot_at xs d).next (numbered_next xs d e) (15 - (i + 1)) (eq-eqb _ k q)) ∙ here
+  goes : numbered m ≡ true → eqb m k ≡ false → before k m (chain (15 - (i + 1)) (nexts xs) (nexts xs m)) ≡ x
+  goes t n = before_goes (nexts xs) k d m next (15 - (i + 1)) t n ∙ here
+
+  meets : eqb m k ≡ true → d ≡ x
+  meets n = sym (before_here (nexts xs) k d m next (15 - (i + 1)) n) ∙ here
+
+  ends : numbered m ≡ false → d ≡ x
+  ends t = sym (before_last (nexts xs) k d m next (suc (15 - (i + 1))) t) ∙ here
 
 spent : (xs : List Slot) (k d n x : ℕ) → n ≡ 0 → before k d (chain n (nexts xs) (nexts xs d)) ≡ x → d ≡ x
 unfolding chain
 spent xs k d n x z h = subst (λ (n : ℕ). before k d (chain n (nexts xs) (nexts xs d)) ≡ x) z h
 
-pub returns-then-not-is_numbered : goal.returns-then-not-is_numbered
-returns-then-not-is_numbered c = record {
-  slot = stops c.args.slots.now c.args.k c.loop-turn.at c.loop-turn.turn _ c.loop-turn.invariant.0 c.loop-turn-test.true c.loop-turn.invariant.1
-      (elim c.then-not-is_numbered.either [ inl f ↦ inl (sym c.is_numbered.ensures ∙ f) | inr p ↦ inr p.1 ]);
-  numbered = c.loop-turn.invariant.0;
-}
-
-pub loop-turn-preserved : goal.loop-turn-preserved
-loop-turn-preserved c =
-    let m : numbered (slot_at c.args.slots.now c.loop-turn.at).next ≡ true = sym c.is_numbered.ensures ∙ c.if-not-is_numbered.false in
-    (m, goes c.args.slots.now c.args.k c.loop-turn.at c.loop-turn.turn _ c.loop-turn.invariant.0 c.loop-turn-test.true c.loop-turn.invariant.1 m c.if-next-k.false)
+pub loop-preserved : goal.loop-preserved
+loop-preserved c =
+    let r = new_some _ c.new.result c.new.ensures.valid c.new.ensures.value c.in-Some.next c.in-Some.is in
+    let q = ap (λ (s : Slot). s.next) (read_place c.args.slots.now c.told-slots c.place.ensures.value c.place.ensures.inside _) in
+    goes c.args.slots.now c.args.k c.loop.at c.in-Some.next c.loop.counter _ (place_numbered c.place.ensures.value c.place.ensures.inside) (r.1 ∙ q) c.loop-test.true c.loop.invariant
+    (ap numbered r.1 ∙ r.0) (not-true _ (sym c.ne.ensures ∙ c.if-ne.true))
 
 pub returns : goal.returns
-returns c =
-    let z : 15 - c.loop-turn.turn ≡ 0 = omega arith in
-    record {
-      slot = spent c.args.slots.now c.args.k c.loop-turn.at (15 - c.loop-turn.turn) _ z c.loop-turn.invariant.1;
-      numbered = c.loop-turn.invariant.0;
-    }
+returns c = let z : 15 - c.loop.counter ≡ 0 = omega arith in spent c.args.slots.now c.args.k c.loop.at (15 - c.loop.counter) _ z c.loop.invariant
+
+pub returns-in_default : goal.returns-in_default
+returns-in_default c =
+    let r = new_some _ c.new.result c.new.ensures.valid c.new.ensures.value c.in-Some.next c.in-Some.is in
+    let q = ap (λ (s : Slot). s.next) (read_place c.args.slots.now c.told-slots c.place.ensures.value c.place.ensures.inside _) in
+    meets c.args.slots.now c.args.k c.loop.at c.in-Some.next c.loop.counter _ (place_numbered c.place.ensures.value c.place.ensures.inside) (r.1 ∙ q) c.loop-test.true c.loop.invariant
+    (not-false _ (sym c.ne.ensures ∙ c.if-ne.false))
+
+pub returns-in_default-2 : goal.returns-in_default-2
+returns-in_default-2 c =
+    ends c.args.slots.now c.args.k c.loop.at _ c.loop.counter _ (place_numbered c.place.ensures.value c.place.ensures.inside)
+    (ap (λ (s : Slot). s.next) (read_place c.args.slots.now c.told-slots c.place.ensures.value c.place.ensures.inside _)) c.loop-test.true c.loop.invariant
+    (new_none _ c.new.result c.new.ensures.valid c.new.ensures.value c.in_default.is)

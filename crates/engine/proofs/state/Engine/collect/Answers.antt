@@ -1,13 +1,10 @@
+use Rattle.std.proofs.Common.{rules}
 use Rattle.table.specs.View.{view}
-use Rattle.engine.specs.Answers.{collected_told}
 use Rattle.engine.proofs.Promises.{collect_lawful}
 use Rattle.engine.proofs.state.Engine.collect.Goals as goal
 
-pub returns : goal.returns
-returns c = record {
-  answer = c.hand_back.ensures.answer;
-  ticket = c.hand_back.ensures.ticket;
-  after = c.hand_back.ensures.after;
-  refused = c.hand_back.ensures.refused;
-  lawful = collect_lawful (view c.args.self.now.state) (view c.hand_back.new.self.state) c.args.ticket.slot (collected_told c.hand_back.result) c.hand_back.ensures.answer c.hand_back.ensures.after;
-}
+pub returns-in_default-clause-lawful : goal.returns-in_default-clause-lawful
+returns-in_default-clause-lawful c = collect_lawful (view c.args.self.now.state) (view c.args.self.now.state) c.args.ticket.slot _ (search rules) (search rules)
+
+pub returns-clause-lawful : goal.returns-clause-lawful
+returns-clause-lawful c = collect_lawful (view c.args.self.now.state) (view c.put_back.new.self.state) c.args.ticket.slot _ (search rules) (search rules)

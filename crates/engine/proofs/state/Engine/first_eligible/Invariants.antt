@@ -4,5 +4,5 @@ use Rattle.table.specs.Table.{eligible}
 use Rattle.table.specs.View.{view, chain, nexts}
 use Rattle.engine.proofs.state.Engine.first_eligible.Given as goal
 
-abbrev pub invariant-loop-turn : goal.invariant-loop-turn
-invariant-loop-turn l = first_of (chain (16 - l.turn) (nexts l.self.state.slots) l.k) (eligible (view l.self.state)) ≡ first_of (view l.self.state).waiting (eligible (view l.self.state))
+abbrev pub invariant-loop : goal.invariant-loop
+invariant-loop l = first_of (chain (16 - l.counter) (nexts l.self.state.slots) l.next) (eligible (view l.self.state)) ≡ first_of (view l.self.state).waiting (eligible (view l.self.state))

@@ -1,28 +1,33 @@
-use Rattle.std.proofs.Common.{◌≡◌, ℕ, List, [], ◌∷◌, ◌++◌, take, None, Option, sym, subst}
+use Rattle.std.proofs.Common.{◌≡◌, ℕ, List, [], ◌∷◌, ◌++◌, Option, sym, ap, ◌∙◌}
+use Rattle.arrayvec.specs.ArrayVec.{ArrayVec}
+use Rattle.scsi.specs.Messages.{message_of}
 use Rattle.slots.specs.declared.line.Heard.{Heard}
-use Rattle.slots.specs.declared.answer.Answer.{Answer}
-use Rattle.bus.specs.declared.Shown.{Shown}
-use Rattle.bus.specs.Calls.{Call, Reply}
-use Rattle.table.specs.Engine.{Engine, Entry}
-use Rattle.table.specs.Script.{Plays}
-use Rattle.table.specs.Table.{by_heard}
-use Rattle.table.specs.View.{view, entry_of}
+use Rattle.slots.specs.declared.slot.Slots.{Slots}
+use Rattle.table.specs.Engine.{Entry, set_line}
+use Rattle.table.specs.Table.{heard_of, by_heard}
+use Rattle.table.specs.View.{view, entry_of, line_of}
+use Rattle.table.proofs.Meanings.{plays_as}
+use Rattle.engine.proofs.Rows.{by_heard_line}
 use Rattle.engine.proofs.state.Engine.message_byte.Goals as goal
 
--- what a message comes to, by another word for it and for the status
-as-heard : {B : Type 0} (see : B → Shown) (did : B → Call → Reply → B → Type 0) (e : Engine) (k : ℕ) (x : Entry) (bs : List ℕ) (h h' : Heard) (o o' : Option ℕ) → h ≡ h' → o ≡ o'
-    → (b : B) (m : List ℕ) (r : Answer) (e' : Engine) (b' : B) → Plays see did (by_heard e k x bs h o) b m r e' b' m → Plays see did (by_heard e k x bs h' o') b m r e' b' m
-as-heard see did e k x bs h h' o o' p q b m r e' b' t =
-    subst (λ (i : Heard). Plays see did (by_heard e k x bs i o') b m r e' b' m) p (subst (λ (i : Option ℕ). Plays see did (by_heard e k x bs h i) b m r e' b' m) q t)
+-- what the message comes to, as it was begun
+message_said : (s : Slots) (k : ℕ) (x : Entry) (v : ℕ) (rest bs : List ℕ) (h : Heard) (o o' : Option ℕ) → bs ≡ s.begun.items ++ v ∷ [] → h ≡ heard_of (message_of bs) → o ≡ o'
+    → by_heard (set_line (line_of s.line rest) (view s)) k x bs h o ≡ by_heard (view s) k x (s.begun.items ++ v ∷ []) (heard_of (message_of (s.begun.items ++ v ∷ []))) o'
+message_said s k x v rest bs h o o' p q r =
+    by_heard_line (view s) (line_of s.line rest) k x bs h o
+    ∙ (λ i. by_heard (view s) k x (p i) ((q ∙ ap (λ (bs : List ℕ). heard_of (message_of bs)) p) i) (r i))
 
 pub returns-in-None : goal.returns-in-None
 returns-in-None g c = λ m. (
   _,
   _,
   c.take.ensures,
-  as-heard (λ b. (g.B.Bus.means b).shown) g.B.Bus.did (view c.args.self.now.state) c.args.k (entry_of c.args.slot)
-      (take c.args.self.now.state.heard c.args.self.now.state.begun ++ c.args.byte ∷ []) c.heard-heard.result _ None c.args.slot.status
-      c.heard-heard.ensures.heard (sym c.in-None.is) _ m _ _ _ (c.before_status.ensures m),
+  plays_as (λ b. (g.B.Bus.means b).shown) g.B.Bus.did _ _
+      (message_said c.args.self.now.state c.args.held.now.k (entry_of c.args.held.now.slot) c.args.byte c.take-message.new.self.items c.push.new.self.items c.comes_to-heard.result _ c.args.held.now.slot.status
+      (c.push.ensures.items ∙ ap (λ (b : ArrayVec ℕ). b.items ++ c.args.byte ∷ []) c.take-message.ensures.value)
+      (c.comes_to-heard.ensures.heard ∙ ap (λ (bs : List ℕ). heard_of (message_of bs)) c.deref.ensures.0)
+      (sym c.in-None.is))
+      _ m _ _ _ m (c.before_status.ensures m),
 )
 
 pub returns-in-Some : goal.returns-in-Some
@@ -30,7 +35,10 @@ returns-in-Some g c = λ m. (
   _,
   _,
   c.take.ensures,
-  as-heard (λ b. (g.B.Bus.means b).shown) g.B.Bus.did (view c.args.self.now.state) c.args.k (entry_of c.args.slot)
-      (take c.args.self.now.state.heard c.args.self.now.state.begun ++ c.args.byte ∷ []) c.heard-heard.result _ _ c.args.slot.status
-      c.heard-heard.ensures.heard (sym c.in-Some.is) _ m _ _ _ (c.after_status.ensures m _),
+  plays_as (λ b. (g.B.Bus.means b).shown) g.B.Bus.did _ _
+      (message_said c.args.self.now.state c.args.held.now.k (entry_of c.args.held.now.slot) c.args.byte c.take-message.new.self.items c.push.new.self.items c.comes_to-heard.result _ c.args.held.now.slot.status
+      (c.push.ensures.items ∙ ap (λ (b : ArrayVec ℕ). b.items ++ c.args.byte ∷ []) c.take-message.ensures.value)
+      (c.comes_to-heard.ensures.heard ∙ ap (λ (bs : List ℕ). heard_of (message_of bs)) c.deref.ensures.0)
+      (sym c.in-Some.is))
+      _ m _ _ _ m (c.after_status.ensures m _),
 )

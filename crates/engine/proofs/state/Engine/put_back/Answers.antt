@@ -1,9 +1,11 @@
-use Rattle.std.proofs.Common.{rules}
+use Rattle.engine.proofs.Numbers.{at_place}
 use Rattle.engine.proofs.Kept.{view_put, whole_put}
 use Rattle.engine.proofs.state.Engine.put_back.Goals as goal
 
 pub invariant_of-self : goal.invariant_of-self
-invariant_of-self c = whole_put c.args.self.now (search rules) c.args.k c.args.slot c.requires.as_kept c.requires.finished
+invariant_of-self c = rw (at_place c.place.ensures.value, c.get-self.ensures.value)
+    (whole_put c.args.self.now c.args.k c.args.slot c.requires.as_kept c.requires.finished)
 
 pub returns : goal.returns
-returns c = view_put c.args.self.now (search rules) c.args.k c.args.slot c.requires.as_kept c.requires.finished
+returns c = rw (at_place c.place.ensures.value, c.get-self.ensures.value)
+    (view_put c.args.self.now c.args.k c.args.slot c.requires.as_kept c.requires.finished)

@@ -1,42 +1,39 @@
-use Rattle.std.proofs.Common.{◌≡◌, ℕ, suc, ◌+◌, ◌-◌, sym, refl, ap, ◌∙◌, subst, arith}
+use Rattle.std.proofs.Common.{◌+◌, ap, subst, arith}
 use Rattle.slots.specs.declared.answer.End.{End}
-use Rattle.slots.specs.declared.answer.End.TheVariants.{Spent}
 use Rattle.table.specs.Calls.{PlaysRun, end_by, is_end}
 use Rattle.table.specs.View.{view}
-use Rattle.engine.proofs.Steps.{run_on, run_over}
+use Rattle.engine.proofs.Steps.{reached_first, reached_last, reached_next, reached_end, goes_on}
+use Rattle.engine.proofs.state.Engine.rows.Goals.{else-loop-made-test, then-loop-made-test+in_default+else-made-allowance}
 use Rattle.engine.proofs.state.Engine.rows.Goals as goal
 
-pub returns-then-is_end : goal.returns-then-is_end
-returns-then-is_end g c =
-    let s : suc (c.loop-left.left - 1) ≡ c.loop-left.left = omega arith in
-    let l = c.loop-left.invariant.0 in
-    let n : 1 + (c.args.allowance - c.loop-left.left) ≡ c.args.allowance - (c.loop-left.left - 1) = omega (arith, l) in
-    let v = sym c.end_of-end.ensures in
-    subst (λ (i : ℕ). PlaysRun (λ b. (g.B.Bus.means b).shown) g.B.Bus.did c.args.allowance (view c.args.self.now.state) c.args.bus.now c.args.memory.now i c.end_of-end.result (view c.row.new.self.state) c.row.new.bus c.row.new.memory) n
-    (c.loop-left.invariant.1 1 c.end_of-end.result (view c.row.new.self.state) c.row.new.bus c.row.new.memory
-    (subst (λ (x : End). PlaysRun (λ b. (g.B.Bus.means b).shown) g.B.Bus.did c.loop-left.left (view c.loop-left.self.state) c.loop-left.bus c.loop-left.memory 1 x (view c.row.new.self.state) c.row.new.bus c.row.new.memory) v
-    (subst (λ (i : ℕ). PlaysRun (λ b. (g.B.Bus.means b).shown) g.B.Bus.did i (view c.loop-left.self.state) c.loop-left.bus c.loop-left.memory 1 (end_by c.row.result) (view c.row.new.self.state) c.row.new.bus c.row.new.memory) s
-    (run_over (λ b. (g.B.Bus.means b).shown) g.B.Bus.did (c.loop-left.left - 1) (view c.loop-left.self.state) c.loop-left.bus c.loop-left.memory c.row.result (view c.row.new.self.state) c.row.new.bus c.row.new.memory c.row.ensures
-    (ap is_end v ∙ sym c.is_end.ensures ∙ c.if-is_end.true)))))
+pub loop-made-init : goal.loop-made-init
+loop-made-init g c = (omega arith, reached_first (λ b. (g.B.Bus.means b).shown) g.B.Bus.did c.args.allowance _ _ _)
 
-pub loop-left-preserved : goal.loop-left-preserved
-loop-left-preserved g c =
-    let s : suc (c.loop-left.left - 1) ≡ c.loop-left.left = omega arith in
-    let l = c.loop-left.invariant.0 in (
-      omega (arith, l),
-      λ made end e' b' m' r.
-          let n : suc made + (c.args.allowance - c.loop-left.left) ≡ made + (c.args.allowance - (c.loop-left.left - 1)) = omega (arith, l) in
-          subst (λ (i : ℕ). PlaysRun (λ b. (g.B.Bus.means b).shown) g.B.Bus.did c.args.allowance (view c.args.self.now.state) c.args.bus.now c.args.memory.now i end e' b' m') n
-          (c.loop-left.invariant.1 (suc made) end e' b' m'
-          (subst (λ (i : ℕ). PlaysRun (λ b. (g.B.Bus.means b).shown) g.B.Bus.did i (view c.loop-left.self.state) c.loop-left.bus c.loop-left.memory (suc made) end e' b' m') s
-          (run_on (λ b. (g.B.Bus.means b).shown) g.B.Bus.did (c.loop-left.left - 1) (view c.loop-left.self.state) c.loop-left.bus c.loop-left.memory c.row.result (view c.row.new.self.state) c.row.new.bus c.row.new.memory c.row.ensures
-          (ap is_end (sym c.end_of-end.ensures) ∙ sym c.is_end.ensures ∙ c.if-is_end.false) made end e' b' m' r))),
-    )
+pub returns-in-Finished : goal.returns-in-Finished
+returns-in-Finished g c =
+    let q = ap end_by c.in-Finished.is in
+    subst (λ (x : End). PlaysRun (λ b. (g.B.Bus.means b).shown) g.B.Bus.did c.args.allowance (view c.args.self.now.state) c.args.bus.now c.args.memory.now c.loop-made.made x (view c.row.new.self.state) c.row.new.bus c.row.new.memory) q
+    (reached_end _ _ _ _ _ _ c.loop-made.made _ _ _ c.row.result _ _ _ c.loop-made.auto.made c.loop-made-test.true c.loop-made.invariant.1 c.row.ensures (ap is_end q))
+
+pub returns-in-Fault : goal.returns-in-Fault
+returns-in-Fault g c =
+    let q = ap end_by c.in-Fault.is in
+    subst (λ (x : End). PlaysRun (λ b. (g.B.Bus.means b).shown) g.B.Bus.did c.args.allowance (view c.args.self.now.state) c.args.bus.now c.args.memory.now c.loop-made.made x (view c.row.new.self.state) c.row.new.bus c.row.new.memory) q
+    (reached_end _ _ _ _ _ _ c.loop-made.made _ _ _ c.row.result _ _ _ c.loop-made.auto.made c.loop-made-test.true c.loop-made.invariant.1 c.row.ensures (ap is_end q))
+
+pub loop-made-preserved : goal.loop-made-preserved
+loop-made-preserved g c = (
+  omega arith,
+  reached_next (λ b. (g.B.Bus.means b).shown) g.B.Bus.did c.args.allowance _ _ _ c.loop-made.made _ _ _ c.row.result _ _ _ c.loop-made.auto.made c.loop-made-test.true c.loop-made.invariant.1 c.row.ensures
+      (goes_on c.row.result c.in_default.not-Finished c.in_default.not-Fault),
+)
 
 pub returns : goal.returns
-returns g c =
-    let z : 0 ≡ c.loop-left.left = omega arith in
-    let n : 0 + (c.args.allowance - c.loop-left.left) ≡ c.args.allowance = omega arith in
-    subst (λ (i : ℕ). PlaysRun (λ b. (g.B.Bus.means b).shown) g.B.Bus.did c.args.allowance (view c.args.self.now.state) c.args.bus.now c.args.memory.now i Spent (view c.loop-left.self.state) c.loop-left.bus c.loop-left.memory) n
-    (c.loop-left.invariant.1 0 Spent (view c.loop-left.self.state) c.loop-left.bus c.loop-left.memory
-    (subst (λ (i : ℕ). PlaysRun (λ b. (g.B.Bus.means b).shown) g.B.Bus.did i (view c.loop-left.self.state) c.loop-left.bus c.loop-left.memory 0 Spent (view c.loop-left.self.state) c.loop-left.bus c.loop-left.memory) z (refl, refl, refl, refl, refl)))
+returns g c = elim c.loop-made-test.branch [
+  | else-loop-made-test w ↦ rw (w.self-is, w.bus-is, w.memory-is)
+      (reached_last (λ b. (g.B.Bus.means b).shown) g.B.Bus.did c.args.allowance _ _ _ c.loop-made.made _ _ _ (let a = w.loop-made-test.false in let e = c.loop-made.invariant.0 in omega (arith, a, e)) c.loop-made.invariant.1)
+  | then-loop-made-test+in_default+else-made-allowance w ↦ rw (w.self-is, w.bus-is, w.memory-is)
+      (reached_last (λ b. (g.B.Bus.means b).shown) g.B.Bus.did c.args.allowance _ _ _ (c.loop-made.made + 1) _ _ _ (omega arith)
+      (reached_next (λ b. (g.B.Bus.means b).shown) g.B.Bus.did c.args.allowance _ _ _ c.loop-made.made _ _ _ w.row.result _ _ _ c.loop-made.auto.made w.loop-made-test.true c.loop-made.invariant.1 w.row.ensures
+      (goes_on w.row.result w.in_default.not-Finished w.in_default.not-Fault)))
+]
