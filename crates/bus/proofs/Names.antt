@@ -1,5 +1,5 @@
 -- Names of nexuses are told apart by their parts. Assumes nothing.
-use Rattle.std.proofs.Common.{◌≡◌, ℕ, Bool, true, false, cond, eqb, Some, None, Option, refl, ap, arith}
+use Rattle.std.proofs.Common.{◌≡◌, ℕ, Bool, true, false, cond, eqb, Some, None, Option, refl, ap}
 use Rattle.std.proofs.lemmas.Bool.{eq-eqb, eqb-true, and_from, and_parts, false≢true}
 use Rattle.bus.specs.State.{Name, Nexus, same_tag, same_name, put}
 
@@ -28,7 +28,7 @@ put_only n x m y e = go (same_name m n) e
   where
     go : (b : Bool) → cond b (Some x) None ≡ Some y → x ≡ y
     go true e = cc
-    go false e = let z : ◌≡◌ {A = ℕ} 0 1 = cc in absurd (omega arith)
+    go false e = absurd cc
 
 same_tag_is : (a b : Option ℕ) → same_tag a b ≡ true → a ≡ b
 same_tag_is None None h = refl

@@ -1,5 +1,5 @@
 -- How a bus with at most one nexus changes. Assumes nothing.
-use Rattle.std.proofs.Common.{◌≡◌, ℕ, Bool, true, false, cond, List, [], Some, None, Option, sym, refl, ap, ◌∙◌, subst, arith}
+use Rattle.std.proofs.Common.{◌≡◌, ℕ, Bool, true, false, cond, List, [], Some, None, Option, sym, refl, ap, ◌∙◌, subst}
 use Rattle.shelf.specs.Model.{Model}
 use Rattle.bus.specs.declared.Shown.{Shown}
 use Rattle.bus.specs.declared.Shown.TheVariants.{DataOut, DataIn, Command, Status, MessageIn}
@@ -41,8 +41,8 @@ at_rest b r s = λ i. record { shelf = b.cable.shelf; nexuses = λ n. r.none n i
   where
     nothing : (l : Line) → l ≡ free → LineShows b.cable l b.shown → b.cable.begun ≡ []
     nothing free e h = h.0
-    nothing (retaken t k) e h = let z : ◌≡◌ {A = ℕ} 0 1 = cc in absurd (omega arith)
-    nothing (held n) e h = let z : ◌≡◌ {A = ℕ} 0 1 = cc in absurd (omega arith)
+    nothing (retaken t k) e h = absurd cc
+    nothing (held n) e h = absurd cc
 
 -- what may be shown to the nexus
 pub shown_to : (m : Model) (n : Name) (x : Nexus) (s : Shown) → LineShows (holding m n x) (held n) s → MayShow m (put n (Some x) (λ k. None)) n x s

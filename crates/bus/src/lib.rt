@@ -3,15 +3,17 @@
 
 ghost use Rattle.std.specs.Prelude.{◌≡◌, true};
 ghost use Rattle.shelf.specs.Laws.{Laws};
-ghost use Rattle.bus.specs.State.{BusState};
+ghost use Rattle.bus.specs.State.{BusState, same_name};
 ghost use Rattle.bus.specs.Calls.{Call, Reply, selection_or_refused, took_or_refused, done_or_refused};
+ghost use Rattle.bus.specs.Refusals.{name_of};
 ghost use Rattle.bus.specs.Effects.{aborts};
 ghost use Rattle.bus.specs.Showing.{Shows};
 ghost use Rattle.bus.specs.Rules.{Did, PausingIsAllowed};
 ghost use Rattle.bus.specs.Counting.{AlwaysCounted};
 ghost use Rattle.bus.specs.Kinds.{kind_of, byte_shown};
 
-use scsi::Cdb;
+use scsi::{Cdb, Greeting};
+use shelf::Unit;
 use std::error::Error;
 use std::fmt;
 
@@ -69,6 +71,35 @@ pub enum Stage {
     Fresh,
     Commanded(Cdb),
     Ended(Cdb, u8),
+}
+
+/// What a nexus was opened with: its target and its greeting.
+#[derive(Clone, Copy, PartialEq, Eq, Debug)]
+pub struct Opened {
+    pub target: u8,
+    pub greeting: Greeting,
+}
+
+impl Opened {
+    /// The unit of its nexus.
+    pub fn unit(&self) -> Unit
+        ensures { result ≡ record { target = self.now.target; lun = self.now.greeting.lun } }
+    {
+        Unit {
+            target: self.target,
+            lun: self.greeting.lun,
+        }
+    }
+
+    // No derive: the leave is no part of a name.
+    /// Whether the nexus of the other has the same name: target, LUN and tag.
+    pub fn same_name(&self, other: &Opened) -> bool
+        ensures { result ≡ same_name (name_of self.now.target self.now.greeting) (name_of other.now.target other.now.greeting) }
+    {
+        self.target == other.target
+            && self.greeting.lun == other.greeting.lun
+            && self.greeting.tag == other.greeting.tag
+    }
 }
 
 /// What a selection came to.

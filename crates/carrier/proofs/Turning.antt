@@ -88,8 +88,8 @@ gave m n c out u into b b' v g e s left byte d =
         record {
           given = rw (h.given, w, byte) refl;
           enough = λ w'. omega (arith, place);
-          room = λ w'. let z : ◌≡◌ {A = ℕ} 0 1 = cc in absurd (omega arith);
-          taken = λ w' i l. let z : ◌≡◌ {A = ℕ} 0 1 = cc in absurd (omega arith);
+          room = λ w'. absurd cc;
+          taken = λ w' i l. absurd cc;
         }
 
 -- an in byte is taken, and put at its place
@@ -119,7 +119,7 @@ took_byte m n c out u into b b' v w g e s room d =
     more x w place byte h =
         record {
           given = rw (h.given, w) refl;
-          enough = λ w'. let z : ◌≡◌ {A = ℕ} 0 1 = cc in absurd (omega arith);
+          enough = λ w'. absurd cc;
           room = λ w'. simp length-set (omega (arith, place));
           taken = λ w' i l. grind (arith, common_steps, get_or-set_same, get_or-set_other, h.taken w);
         }

@@ -39,7 +39,7 @@ number_at p (Some k) valid value l = ap (λ (i : ℕ). Some i) value
 
 -- what an option comes to with an error in place of none
 granted_refused : {A E : Type 0} {a : A} {e : E} → ◌≡◌ {A = Result A E} (Ok a) (Err e) → ⊥
-granted_refused h = let z : ◌≡◌ {A = ℕ} 0 1 = cc in absurd (omega arith)
+granted_refused h = absurd cc
 
 pub granted : {A E : Type 0} (o : Option A) (e : E) (a : A) → Ok a ≡ ok_or o e → o ≡ Some a
 granted None e a h = absurd (granted_refused h)

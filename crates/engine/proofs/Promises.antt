@@ -34,7 +34,7 @@ collect_lawful e e' k a p q b m = lawful (collect k a) _ _ (record { answer = p;
 
 -- what is granted is not refused
 granted_refused : {A : Type 0} {a : A} {n : ℕ} → ◌≡◌ {A = Result A ℕ} (Ok a) (Err n) → ⊥
-granted_refused h = let z : ◌≡◌ {A = ℕ} 0 1 = cc in omega arith
+granted_refused h = cc
 
 -- a memory that is as it was
 untouched : (e : Engine) (m m' : List ℕ) → m' ≡ m → OnlyInside e m m'

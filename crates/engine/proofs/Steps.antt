@@ -2,8 +2,6 @@
 use Rattle.std.proofs.Common.{◌≡◌, ℕ, suc, ◌+◌, ◌-◌, ◌≤◌, Bool, true, false, eqb, List, length, Ok, Err, refl, subst, arith}
 use Rattle.std.proofs.lemmas.Bool.{eq-eqb, ne_eqb}
 use Rattle.slots.specs.declared.answer.Answer.{Answer}
-use Rattle.slots.specs.declared.answer.Answer.TheVariants.{Idle, Waited, Lost, Selected, Accepted, Moved, Finished, Told, Fault}
-use Rattle.slots.specs.declared.answer.Fault.{Fault as FaultTold}
 use Rattle.slots.specs.declared.answer.End.{End}
 use Rattle.slots.specs.declared.answer.End.TheVariants.{Spent}
 use Rattle.slots.specs.declared.refusal.Refusal.TheVariants.{MemorySize as WrongSize}
@@ -81,15 +79,3 @@ module _ {B : Type 0} (see : B → Shown) (did : B → Call → Reply → B → 
           subst (λ (j : ℕ). PlaysRun see did n e b m j (end_by a) e₂ b₂ m₂) k
           (h 1 (end_by a) e₂ b₂ m₂ (subst (λ (j : ℕ). PlaysRun see did j e₁ b₁ m₁ 1 (end_by a) e₂ b₂ m₂) allowed
           (a, e₂, b₂, m₂, p, then_when _ _ (ends a) f (refl, refl, refl, refl, refl))))
-
--- an answer that neither finishes a command nor tells a fault
-pub goes_on : (a : Answer) → ((k : ℕ) → a ≡ Finished k → ⊥) → ((f : FaultTold) → a ≡ Fault f → ⊥) → is_end (end_by a) ≡ false
-goes_on Idle n m = refl
-goes_on (Waited k) n m = refl
-goes_on (Lost k) n m = refl
-goes_on (Selected k) n m = refl
-goes_on Accepted n m = refl
-goes_on (Moved k) n m = refl
-goes_on (Finished k) n m = absurd (n k refl)
-goes_on (Told k) n m = refl
-goes_on (Fault f) n m = absurd (m f refl)

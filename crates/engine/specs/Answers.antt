@@ -37,7 +37,7 @@ RefusedChangesNothing (Err e) s s' = s' ≡ s
 
 -- the request, by the bytes that it points to
 abbrev pub asked : Request → Asked
-asked r = record { target = r.target; lun = r.lun; manner = r.manner; direction = r.direction; bytes = r.bytes.now; base = r.base; length = r.length }
+asked r = record { target = r.unit.target; lun = r.unit.lun; manner = r.manner; direction = r.direction; bytes = r.bytes.now; base = r.region.base; length = r.region.length }
 
 -- which test refused it
 abbrev pub refusal_told : Result Command Refusal → Option ℕ

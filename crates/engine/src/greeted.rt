@@ -92,7 +92,7 @@ impl Engine {
     }
 }
 
-// The place of the first slot that is away, tagged or not, and of this unit.
+// The place of the first slot that is away, tagged or not, and of this unit: apart, as `clear_of_all` is.
 fn first_away(slots: &[Slot; 16], unit: Unit, tagged: bool) -> Option<usize>
     ensures { result ≡ position (λ x. away_with_by tagged unit.target unit.lun (entry_of x)) slots.now }
 {

@@ -23,14 +23,11 @@ impl Engine {
         let mut message = self.state.begun.take();
         message.push(byte);
         let heard = comes_to(&message);
-        match held.slot.status {
-            None => self.before_status(bus, held, message, heard),
-            Some(_) => self.after_status(bus, held, message, heard),
-        }
+        self.obey(bus, held, message, heard)
     }
 
-    // What a message comes to before the status.
-    fn before_status<B: Bus>(
+    // What a message comes to, by whether the status came.
+    fn obey<B: Bus>(
         &mut self,
         bus: &mut B,
         held: &Held,
@@ -39,55 +36,34 @@ impl Engine {
     ) -> Answer
         requires as_kept { slot_at self.old.state.slots held.now.k ≡ held.now.slot }
         requires room { heard ≡ Heard.Part → length message.items ≤ 257 }
-        ensures { (m : List ℕ) → Plays (λ b. (B.Bus.means b).shown) B.Bus.did (by_heard (view self.old.state) held.now.k (entry_of held.now.slot) message.items heard None) bus.old m result (view self.new.state) bus.new m }
+        ensures { (m : List ℕ) → Plays (λ b. (B.Bus.means b).shown) B.Bus.did (by_heard (view self.old.state) held.now.k (entry_of held.now.slot) message.items heard held.now.slot.status) bus.old m result (view self.new.state) bus.new m }
     {
         let slot = held.slot;
-        match heard {
-            Heard::Part => self.hear_more(held, message),
-            Heard::Save => {
+        match (heard, slot.status) {
+            (Heard::Part, _) => self.hear_more(held, message),
+            (Heard::Save, None) => {
                 let saved = Slot {
                     saved: slot.current,
                     ..slot
                 };
                 self.keep(held.k, saved);
             }
-            Heard::Restore => {
+            (Heard::Restore, None) => {
                 let restored = Slot {
                     current: slot.saved,
                     ..slot
                 };
                 self.keep(held.k, restored);
             }
-            Heard::Disconnect => self.leave(held, State::Away),
-            Heard::Reject => self.hold(held),
-            Heard::Complete | Heard::Other => return self.reject(bus, held),
+            (Heard::Disconnect, None) => self.leave(held, State::Away),
+            (Heard::Reject, None) => self.hold(held),
+            (Heard::Complete, Some(_)) => {
+                self.leave(held, State::Finished(Outcome::Done));
+                return Answer::Finished(held.k);
+            }
+            _ => return self.reject(bus, held),
         }
         Answer::Told(Some(held.k))
-    }
-
-    // What a message comes to after the status.
-    fn after_status<B: Bus>(
-        &mut self,
-        bus: &mut B,
-        held: &Held,
-        message: ArrayVec<u8, 258>,
-        heard: Heard,
-    ) -> Answer
-        requires as_kept { slot_at self.old.state.slots held.now.k ≡ held.now.slot }
-        requires room { heard ≡ Heard.Part → length message.items ≤ 257 }
-        ensures { (m : List ℕ) (s : ℕ) → Plays (λ b. (B.Bus.means b).shown) B.Bus.did (by_heard (view self.old.state) held.now.k (entry_of held.now.slot) message.items heard (Some s)) bus.old m result (view self.new.state) bus.new m }
-    {
-        match heard {
-            Heard::Part => {
-                self.hear_more(held, message);
-                Answer::Told(Some(held.k))
-            }
-            Heard::Complete => {
-                self.leave(held, State::Finished(Outcome::Done));
-                Answer::Finished(held.k)
-            }
-            _ => self.reject(bus, held),
-        }
     }
 
     // A message that is not obeyed: MESSAGE REJECT.

@@ -14,7 +14,8 @@ use scsi::Word;
 use shelf::Way;
 use slots::{Answer, Fault, Holder, Layer, Line, Manner, Outcome, Slot, SlotNumber, State};
 
-// A slot that holds the line, with its number.
+// A slot that holds the line, with its number. That the engine's slot of this number is this one relates two values, so it
+// stands in the `requires` of each row: a struct with the engine's `&mut` beside would have to keep it at each write.
 #[derive(Clone, Copy)]
 pub(crate) struct Held {
     pub(crate) k: SlotNumber,
@@ -26,9 +27,9 @@ pub(crate) struct Held {
 impl Held {
     // The place of the memory that its current pointer is at.
     fn place(&self) -> usize
-        ensures { result ≡ self.now.slot.command.base + self.now.slot.current }
+        ensures { result ≡ self.now.slot.command.region.base + self.now.slot.current }
     {
-        self.slot.command.base as usize + self.slot.current as usize
+        self.slot.command.region.base as usize + self.slot.current as usize
     }
 
     // A fault while it holds the line.
@@ -122,7 +123,7 @@ impl Engine {
         if held.slot.command.direction != Way::In {
             return self.abort(bus, held, Shown::DataIn(byte), Outcome::WrongWay);
         }
-        if held.slot.current >= held.slot.command.length {
+        if held.slot.current >= held.slot.command.region.length {
             return self.abort(bus, held, Shown::DataIn(byte), Outcome::Overrun);
         }
         let _ = bus.take();
@@ -143,7 +144,7 @@ impl Engine {
         if held.slot.command.direction != Way::Out {
             return self.abort(bus, held, Shown::DataOut, Outcome::WrongWay);
         }
-        if held.slot.current >= held.slot.command.length {
+        if held.slot.current >= held.slot.command.region.length {
             return self.abort(bus, held, Shown::DataOut, Outcome::Overrun);
         }
         let _ = bus.give(fetch(memory, held.place()));

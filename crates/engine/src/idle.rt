@@ -80,6 +80,7 @@ impl Engine {
         ensures { result ≡ first_of (view self.now.state).waiting (eligible (view self.now.state)) }
     {
         let mut next = self.state.waiting;
+        // By next numbers, which no iterator follows.
         for _ in 0..16u8 {
             let k = SlotNumber::new(next)?;
             let slot = self.slot(k);

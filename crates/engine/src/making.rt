@@ -8,7 +8,7 @@ use crate::state::Engine;
 use arrayvec::ArrayVec;
 use scsi::Cdb;
 use shelf::{Unit, Way};
-use slots::{Command, Line, Manner, Slot, Slots, State};
+use slots::{Command, Line, Manner, Region, Slot, Slots, State};
 
 impl Engine {
     /// A fresh engine, for a memory of this size: all slots are free, and the line is idle.
@@ -42,8 +42,7 @@ fn fresh(next: u8) -> Slot
             manner: Manner::Plain,
             direction: Way::Still,
             bytes: Cdb::Six([0; 6]),
-            base: 0,
-            length: 0,
+            region: Region { base: 0, length: 0 },
         },
         current: 0,
         saved: 0,
@@ -56,22 +55,5 @@ fn fresh(next: u8) -> Slot
 fn fresh_slots() -> [Slot; 16]
     ensures { result ≡ fresh_slots }
 {
-    [
-        fresh(2),
-        fresh(3),
-        fresh(4),
-        fresh(5),
-        fresh(6),
-        fresh(7),
-        fresh(8),
-        fresh(9),
-        fresh(10),
-        fresh(11),
-        fresh(12),
-        fresh(13),
-        fresh(14),
-        fresh(15),
-        fresh(16),
-        fresh(0),
-    ]
+    [2, 3, 4, 5, 6, 7, 8, 9, 10, 11, 12, 13, 14, 15, 16, 0].map(fresh)
 }

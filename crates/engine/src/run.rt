@@ -1,5 +1,5 @@
 // Steps until one finishes a command or answers a fault, or the allowance is spent.
-ghost use Rattle.std.specs.Prelude.{◌≡◌};
+ghost use Rattle.std.specs.Prelude.{◌≡◌, true, false, MatchOption};
 ghost use Rattle.table.specs.Calls.{Event, PlaysRun, end_by, is_end};
 ghost use Rattle.table.specs.Guarantee.{Lawful};
 ghost use Rattle.table.specs.Regions.{OnlyInside};
@@ -39,12 +39,21 @@ impl Engine {
         ensures { PlaysRun (λ b. (B.Bus.means b).shown) B.Bus.did allowance (view self.old.state) bus.old memory.old result.0 result.1 (view self.new.state) bus.new memory.new }
     {
         for made in 1..=allowance {
-            match self.row(bus, memory) {
-                Answer::Finished(slot) => return (made, End::Finished(slot)),
-                Answer::Fault(fault) => return (made, End::Fault(fault)),
-                _ => {}
+            if let Some(end) = end_of(self.row(bus, memory)) {
+                return (made, end);
             }
         }
         (allowance, End::Spent)
+    }
+}
+
+// How an answer ends a run, if it does.
+fn end_of(answer: Answer) -> Option<End>
+    ensures { MatchOption result (is_end (end_by answer) ≡ false) (λ end. (end_by answer ≡ end) × (is_end end ≡ true)) }
+{
+    match answer {
+        Answer::Finished(slot) => Some(End::Finished(slot)),
+        Answer::Fault(fault) => Some(End::Fault(fault)),
+        _ => None,
     }
 }

@@ -4,7 +4,7 @@ ghost use Rattle.engine.specs.Answers.{sized, size_answer};
 use slots::Refusal;
 
 /// The size of a memory that an engine may have.
-#[derive(Clone, Copy)]
+#[derive(Clone, Copy, PartialEq, Eq, Debug)]
 pub struct MemorySize {
     pub(crate) bytes: u32,
 }

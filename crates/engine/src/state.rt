@@ -7,6 +7,7 @@ use slots::Slots;
 #[derive(Drop)]
 pub struct Engine {
     pub(crate) state: Slots,
+    // What the array's type says, for proofs to cite.
     ghost long: { length state.slots ≡ 16 },
     ghost ended: { Ended state },
     ghost free: { FreeChain state },

@@ -11,8 +11,8 @@ use crate::request::Request;
 use crate::state::Engine;
 use crate::ticket::Ticket;
 use scsi::Cdb;
-use shelf::{Unit, Way};
-use slots::{Command, Manner, Refusal, Slot, SlotNumber, State};
+use shelf::Way;
+use slots::{Command, Manner, Refusal, Region, Slot, SlotNumber, State};
 
 impl Engine {
     /// Accepts a command: it waits in a slot of its own, which the ticket names. The first test that fails refuses it.
@@ -34,7 +34,7 @@ impl Engine {
         ensures command { IfOk result (λ c. command_of c ≡ command_asked (asked request.entry)) }
     {
         let command = well_formed(request)?;
-        if u64::from(command.base) + u64::from(command.length) > u64::from(self.state.size) {
+        if command.region.end() > u64::from(self.state.size) {
             return Err(Refusal::Outside);
         }
         if !self.is_clear(command) {
@@ -56,32 +56,29 @@ fn well_formed(request: Request<'_>) -> Result<Command, Refusal>
     ensures refused { refusal_told result ≡ malformed (asked request.entry) None }
     ensures command { IfOk result (λ c. command_of c ≡ command_asked (asked request.entry)) }
 {
-    if request.target > 6 {
+    if request.unit.target > 6 {
         return Err(Refusal::Target);
     }
-    if request.lun > 7 {
+    if request.unit.lun > 7 {
         return Err(Refusal::Lun);
     }
     let bytes = Cdb::new(request.bytes).ok_or(Refusal::CommandLength)?;
     let manner = Manner::try_from(request.manner)?;
     let direction = Way::try_from(request.direction)?;
-    if request.direction == 0 && request.length != 0 {
+    if request.direction == 0 && request.region.length != 0 {
         return Err(Refusal::Form);
     }
     Ok(Command {
-        unit: Unit {
-            target: request.target,
-            lun: request.lun,
-        },
+        unit: request.unit,
         manner,
         direction,
         bytes,
-        base: request.base,
-        length: request.length,
+        region: request.region,
     })
 }
 
-// Whether this command may be accepted beside those of all the slots.
+// Whether this command may be accepted beside those of all the slots. The check proves a search of a list where it is all
+// that a function promises.
 fn clear_of_all(command: Command, slots: &[Slot; 16]) -> bool
     ensures { result ≡ list_all (λ x. clear_by (command_of command) (entry_of x)) slots.now }
 {
@@ -93,16 +90,13 @@ fn clear_of(command: Command, slot: Slot) -> bool
     ensures { result ≡ clear_by (command_of command) (entry_of slot) }
 {
     slot.state == State::Free
-        || !regions_share(command, slot.command)
+        || !regions_share(command.region, slot.command.region)
         || (command.direction == Way::Out && slot.command.direction == Way::Out)
 }
 
-// Whether two commands' regions share a byte.
-fn regions_share(a: Command, b: Command) -> bool
+// Whether two regions share a byte.
+fn regions_share(a: Region, b: Region) -> bool
     ensures { result ≡ share a.base a.length b.base b.length }
 {
-    0 < a.length
-        && 0 < b.length
-        && u64::from(a.base) < u64::from(b.base) + u64::from(b.length)
-        && u64::from(b.base) < u64::from(a.base) + u64::from(a.length)
+    0 < a.length && 0 < b.length && u64::from(a.base) < b.end() && u64::from(b.base) < a.end()
 }

@@ -27,10 +27,7 @@ impl Cdb {
         if let Ok(ten) = <[u8; 10]>::try_from(bytes) {
             return Some(Cdb::Ten(ten));
         }
-        match <[u8; 12]>::try_from(bytes) {
-            Ok(twelve) => Some(Cdb::Twelve(twelve)),
-            Err(_) => None,
-        }
+        <[u8; 12]>::try_from(bytes).map(Cdb::Twelve).ok()
     }
 
     /// The command's bytes.

@@ -66,6 +66,7 @@ pub struct Collected {
 }
 
 impl Layer {
+    // `as` takes no type parameter, so each enum with a number says this line itself.
     /// Its number.
     pub fn number(self) -> u8
         ensures { result ≡ layer_number self }
@@ -121,6 +122,7 @@ fn byte_number(byte: Option<u8>) -> u16
 }
 
 impl Answer {
+    // By a match, as that of `End`: `as` takes no enum whose cases hold something.
     /// Its number, which is its place in the list of answers.
     pub fn number(self) -> u8
         ensures { result ≡ answer_number self }

@@ -1,4 +1,4 @@
-ghost use Rattle.std.specs.Prelude.{◌≡◌};
+ghost use Rattle.std.specs.Prelude.{◌≡◌, ◌+◌};
 ghost use Rattle.slots.specs.Numbers.{manner_number, GivesManner};
 
 use crate::refusal::Refusal;
@@ -16,6 +16,13 @@ pub enum Manner {
     Tagged = 2,
 }
 
+/// A region of the memory: where it begins, and how many bytes it has.
+#[derive(Clone, Copy, PartialEq, Eq, Debug)]
+pub struct Region {
+    pub base: u32,
+    pub length: u32,
+}
+
 /// A command as it was accepted: its unit, its manner, which way its data goes, the bytes for the unit, and the region of
 /// the memory that the data goes to or comes from.
 #[derive(Clone, Copy, PartialEq, Eq, Debug)]
@@ -24,8 +31,16 @@ pub struct Command {
     pub manner: Manner,
     pub direction: Way,
     pub bytes: Cdb,
-    pub base: u32,
-    pub length: u32,
+    pub region: Region,
+}
+
+impl Region {
+    /// The place behind its last byte.
+    pub fn end(self) -> u64
+        ensures { result ≡ self.base + self.length }
+    {
+        u64::from(self.base) + u64::from(self.length)
+    }
 }
 
 impl Manner {

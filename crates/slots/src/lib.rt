@@ -9,7 +9,7 @@ mod refusal;
 mod slot;
 
 pub use answer::{Answer, Collected, End, Fault, Holder, Layer};
-pub use command::{Command, Manner};
+pub use command::{Command, Manner, Region};
 pub use line::{Heard, Line};
 pub use number::SlotNumber;
 pub use refusal::Refusal;

@@ -39,7 +39,7 @@ abbrev pub at : Model → Name → Bool → ℕ → List ℕ → Stage → BusSt
 at m n leave p out g = record { cable = cable_at m n leave p out g; shown = shown_at m n p g; order = true }
 
 abbrev pub name_in : {X : Type 0} → StrictBus X → Name
-name_in s = name_of s.target s.greeting
+name_in s = name_of s.opened.target s.opened.greeting
 
 abbrev pub meaning : {X : Type 0} → (X → Model) → StrictBus X → BusState
-meaning model s = at (model s.shelf) (name_in s) s.greeting.leave s.place s.out.items s.stage
+meaning model s = at (model s.shelf) (name_in s) s.opened.greeting.leave s.place s.out.items s.stage

@@ -11,9 +11,9 @@ ghost use Rattle.strict_bus.specs.Keeping;
 
 use crate::state::StrictBus;
 use arrayvec::ArrayVec;
-use bus::{Bus, Refusal, Selection, Shown, Stage, is_abort};
+use bus::{Bus, Opened, Refusal, Selection, Shown, Stage, is_abort};
 use scsi::{Cdb, Greeting};
-use shelf::{Shelf, Unit, Way};
+use shelf::{Shelf, Way};
 
 impl<S: Shelf> StrictBus<S> {
     /// A strict bus over this shelf, with a free line and no nexus.
@@ -24,11 +24,13 @@ impl<S: Shelf> StrictBus<S> {
         StrictBus {
             shelf,
             stage: Stage::Empty,
-            target: 0,
-            greeting: Greeting {
-                lun: 0,
-                leave: false,
-                tag: None,
+            opened: Opened {
+                target: 0,
+                greeting: Greeting {
+                    lun: 0,
+                    leave: false,
+                    tag: None,
+                },
             },
             place: 0,
             out: ArrayVec::new(),
@@ -42,23 +44,12 @@ impl<S: Shelf> StrictBus<S> {
         &self.shelf
     }
 
-    // The unit of the nexus.
-    fn unit(&self) -> Unit
-        ensures target { result.target ≡ self.now.target }
-        ensures lun { result.lun ≡ self.now.greeting.lun }
-    {
-        Unit {
-            target: self.target,
-            lun: self.greeting.lun,
-        }
-    }
-
     // What is shown while this command is underway.
     fn underway(&self, command: &Cdb) -> Shown
         ensures room { nat_lt (kind_of result) 2 ≡ true → self.now.place < 2048 }
         ensures value { result ≡ underway (S.Shelf.model self.now.shelf) (name_in self.now) (cdb_bytes command.now) self.now.place }
     {
-        let unit = self.unit();
+        let unit = self.opened.unit();
         let bytes = command.as_slice();
         let (way, count) = self.shelf.way(unit, bytes);
         if self.place < count {
@@ -105,8 +96,7 @@ impl<S: Shelf> Bus for StrictBus<S> {
             return Ok(Selection::Absent);
         }
         self.stage = Stage::Fresh;
-        self.target = target;
-        self.greeting = greeting;
+        self.opened = Opened { target, greeting };
         self.place = 0;
         self.out.clear();
         Ok(Selection::Selected)
@@ -152,8 +142,9 @@ impl<S: Shelf> Bus for StrictBus<S> {
                 _ => Err(Refusal::Misfit),
             },
             Stage::Ended(command, _) => {
-                let unit = self.unit();
-                let _ = self.shelf.finish(unit, command.as_slice(), &self.out);
+                let _ = self
+                    .shelf
+                    .finish(self.opened.unit(), command.as_slice(), &self.out);
                 self.stage = Stage::Empty;
                 Ok(0)
             }

@@ -2,18 +2,15 @@
 ghost use Rattle.std.specs.Prelude.{◌≤◌, length};
 
 use arrayvec::ArrayVec;
-use bus::Stage;
-use scsi::Greeting;
+use bus::{Opened, Stage};
 
 /// A bus over any shelf that never loses a selection, moves each command straight through, and never lets go.
 #[derive(Drop)]
 pub struct StrictBus<S> {
     pub(crate) shelf: S,
     pub(crate) stage: Stage,
-    pub(crate) target: u8,
-    pub(crate) greeting: Greeting,
+    pub(crate) opened: Opened,
     pub(crate) place: u16,
     pub(crate) out: ArrayVec<u8, 2048>,
     ghost within: { length out.items ≤ place },
-    ghost bound: { place ≤ 2048 },
 }

@@ -1,5 +1,5 @@
 -- Facts on slots by number, chains, names and first bytes. Assumes nothing.
-use Rattle.std.proofs.Common.{◌≡◌, ℕ, zero, suc, ◌+◌, ◌-◌, ◌<◌, ◌≤◌, Bool, true, false, cond, not, ◌&&◌, ◌||◌, eqb, leb, List, [], ◌∷◌, ◌++◌, length, take, Some, None, Option, sym, refl, ap, ◌∙◌, subst, add-one, arith, length-append}
+use Rattle.std.proofs.Common.{◌≡◌, ℕ, zero, suc, ◌+◌, ◌-◌, ◌≤◌, Bool, true, false, cond, not, ◌&&◌, ◌||◌, eqb, leb, List, [], ◌∷◌, ◌++◌, length, take, Some, None, Option, sym, refl, ap, ◌∙◌, subst, add-one, arith, length-append}
 use Rattle.std.proofs.Math.Bool.{and-false, or-false}
 use Rattle.std.proofs.Math.Seq.{take-length, take-nil}
 use lib.Seq.{take-append-le}
@@ -48,42 +48,16 @@ every_at (suc n) p h k a b =
     go true e ih here = subst (λ (i : ℕ). p i ≡ true) (sym (eqb-true k (suc n) e)) here
     go false e ih here = let ne = eqb-false k (suc n) e in ih (omega arith)
 
-pub every_more : (n : ℕ) (p : ℕ → Bool) → every n p ≡ true → p (suc n) ≡ true → every (suc n) p ≡ true
-unfolding every
-every_more n p h g = and_from (p (suc n)) (every n p) g h
-
-pub every_not : (n : ℕ) (p : ℕ → Bool) (k : ℕ) → 1 ≤ k → k ≤ n → p k ≡ false → every n p ≡ false
-every_not n p k a b h = go (every n p) refl
-  where
-    go : (t : Bool) → every n p ≡ t → every n p ≡ false
-    go true e = wrong (p k) (every_at n p e k a b) h
-    go false e = e
-
--- a walk over the slots 1 to 16, before slot k
-module _ (p : ℕ → Bool) where
-  pub every_none : every 0 p ≡ true
-  unfolding every
-  every_none = refl
-
-  pub every_turn : (k : ℕ) → 1 ≤ k → every (k - 1) p ≡ true → p k ≡ true → every (k + 1 - 1) p ≡ true
-  every_turn k a h g =
-      let here : k ≡ suc (k - 1) = omega arith in
-      let on : suc (k - 1) ≡ k + 1 - 1 = omega arith in
-      subst (λ (n : ℕ). every n p ≡ true) on (every_more (k - 1) p h (subst (λ (n : ℕ). p n ≡ true) here g))
-
-  pub every_end : (k : ℕ) → 16 < k → k ≤ 17 → every (k - 1) p ≡ true → every 16 p ≡ true
-  every_end k a b h = let e : k - 1 ≡ 16 = omega arith in subst (λ (n : ℕ). every n p ≡ true) e h
-
 pub seek_some : (n : ℕ) (p : ℕ → Bool) (k : ℕ) → seek n p ≡ Some k → p k ≡ true
 unfolding seek
-seek_some zero p k h = let z : ◌≡◌ {A = ℕ} 0 1 = cc in absurd (omega arith)
+seek_some zero p k h = absurd cc
 seek_some (suc n) p k h = go (seek n p) (p (suc n)) refl refl (seek_some n p k) h
   where
     go : (o : Option ℕ) (t : Bool) → seek n p ≡ o → p (suc n) ≡ t → (seek n p ≡ Some k → p k ≡ true)
         → or_else o (cond t (Some (suc n)) None) ≡ Some k → p k ≡ true
     go (Some j) t e f ih h = ih (e ∙ h)
     go None true e f ih h = let q : suc n ≡ k = cc in subst (λ (i : ℕ). p i ≡ true) q f
-    go None false e f ih h = let z : ◌≡◌ {A = ℕ} 0 1 = cc in absurd (omega arith)
+    go None false e f ih h = absurd cc
 
 pub seek_none : (n : ℕ) (p : ℕ → Bool) → seek n p ≡ None → (k : ℕ) → 1 ≤ k → k ≤ n → p k ≡ false
 unfolding seek
@@ -92,8 +66,8 @@ seek_none (suc n) p h k a b = go (seek n p) (p (suc n)) refl refl (λ e. seek_no
   where
     go : (o : Option ℕ) (t : Bool) → seek n p ≡ o → p (suc n) ≡ t → (seek n p ≡ None → k ≤ n → p k ≡ false)
         → or_else o (cond t (Some (suc n)) None) ≡ None → p k ≡ false
-    go (Some j) t e f ih h = let z : ◌≡◌ {A = ℕ} 0 1 = cc in absurd (omega arith)
-    go None true e f ih h = let z : ◌≡◌ {A = ℕ} 0 1 = cc in absurd (omega arith)
+    go (Some j) t e f ih h = absurd cc
+    go None true e f ih h = absurd cc
     go None false e f ih h = at (eqb k (suc n)) refl
       where
         at : (t : Bool) → eqb k (suc n) ≡ t → p k ≡ false
@@ -102,10 +76,6 @@ seek_none (suc n) p h k a b = go (seek n p) (p (suc n)) refl refl (λ e. seek_no
 
 -- a walk to the first of the slots 1 to 16 that passes, before slot k
 module _ (p : ℕ → Bool) where
-  pub seek_start : seek 0 p ≡ None
-  unfolding seek
-  seek_start = refl
-
   seek_next : (n : ℕ) (t : Bool) → seek n p ≡ None → p (suc n) ≡ t → seek (suc n) p ≡ cond t (Some (suc n)) None
   unfolding seek
   seek_next n t h g = ap (λ (o : Option ℕ). or_else o (cond (p (suc n)) (Some (suc n)) None)) h ∙ ap (λ (t : Bool). cond t (Some (suc n)) None) g
@@ -117,12 +87,6 @@ module _ (p : ℕ → Bool) where
       let e : suc (d + n) ≡ suc d + n = omega arith in
       subst (λ (m : ℕ). seek m p ≡ Some k) e (ap (λ (o : Option ℕ). or_else o (cond (p (suc (d + n))) (Some (suc (d + n))) None)) (seek_stays k n d h))
 
-  pub seek_turn : (k : ℕ) → 1 ≤ k → seek (k - 1) p ≡ None → p k ≡ false → seek (k + 1 - 1) p ≡ None
-  seek_turn k a h g =
-      let here : k ≡ suc (k - 1) = omega arith in
-      let on : suc (k - 1) ≡ k + 1 - 1 = omega arith in
-      subst (λ (n : ℕ). seek n p ≡ None) on (seek_next (k - 1) false h (subst (λ (n : ℕ). p n ≡ false) here g))
-
   pub seek_found : (k : ℕ) → 1 ≤ k → k ≤ 16 → seek (k - 1) p ≡ None → p k ≡ true → seek 16 p ≡ Some k
   seek_found k a b h g =
       let here : k ≡ suc (k - 1) = omega arith in
@@ -131,12 +95,9 @@ module _ (p : ℕ → Bool) where
       subst (λ (n : ℕ). seek n p ≡ Some k) all
       (seek_stays k (suc (k - 1)) (16 - k) (seek_next (k - 1) true h (subst (λ (n : ℕ). p n ≡ true) here g) ∙ ap (λ (n : ℕ). Some n) on))
 
-  pub seek_end : (k : ℕ) → 16 < k → k ≤ 17 → seek (k - 1) p ≡ None → seek 16 p ≡ None
-  seek_end k a b h = let e : k - 1 ≡ 16 = omega arith in subst (λ (n : ℕ). seek n p ≡ None) e h
-
 pub first_of_some : (ks : List ℕ) (p : ℕ → Bool) (k : ℕ) → first_of ks p ≡ Some k → (stands_on k ks ≡ true) × (p k ≡ true)
 unfolding first_of stands_on
-first_of_some [] p k h = let z : ◌≡◌ {A = ℕ} 0 1 = cc in absurd (omega arith)
+first_of_some [] p k h = absurd cc
 first_of_some (j ∷ js) p k h = go (p j) refl (first_of_some js p k) h
   where
     go : (t : Bool) → p j ≡ t → (first_of js p ≡ Some k → (stands_on k js ≡ true) × (p k ≡ true))

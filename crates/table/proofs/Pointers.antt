@@ -16,19 +16,19 @@ use Rattle.table.proofs.Invariant.{Underway}
 -- what a nexus was sent is the command
 pub was_sent : (t : Bool) (o : Option (List ℕ)) (bs d : List ℕ) → o ≡ cond t (Some bs) None → o ≡ Some d → (t ≡ true) × (d ≡ bs)
 was_sent true o bs d p q = (refl, cc)
-was_sent false o bs d p q = let z : ◌≡◌ {A = ℕ} 0 1 = cc in absurd (omega arith)
+was_sent false o bs d p q = absurd cc
 
 pub no_status : {A : Type 0} (o : Option ℕ) (st : ℕ) → o ≡ None → o ≡ Some st → A
-no_status o st p q = let z : ◌≡◌ {A = ℕ} 0 1 = cc in absurd (omega arith)
+no_status o st p q = absurd cc
 
 outs_in : (w : Way) (p q : ℕ) (f : ℕ → ℕ) → w ≡ In → outs w p f ≡ outs w q f
 outs_in Still p q f h = refl
 outs_in In p q f h = refl
-outs_in Out p q f h = let z : ◌≡◌ {A = ℕ} 0 1 = cc in absurd (omega arith)
+outs_in Out p q f h = absurd cc
 
 outs_out : (w : Way) (p : ℕ) (f : ℕ → ℕ) → w ≡ Out → outs w (suc p) f ≡ outs w p f ++ f p ∷ []
-outs_out Still p f h = let z : ◌≡◌ {A = ℕ} 0 1 = cc in absurd (omega arith)
-outs_out In p f h = let z : ◌≡◌ {A = ℕ} 0 1 = cc in absurd (omega arith)
+outs_out Still p f h = absurd cc
+outs_out In p f h = absurd cc
 outs_out Out p f h = refl
 
 module _ (sh : Model) (f f' : Name → Option Nexus) (m : List ℕ) (x : Entry) (p : ℕ → ℕ) (y : Nexus) (u : Underway sh f m x p y) where
@@ -57,7 +57,7 @@ module _ (sh : Model) (f f' : Name → Option Nexus) (m : List ℕ) (x : Entry) 
       ws = was_sent x.sent y.command x.command.bytes o.sent u.command o.commanded
 
       clash : x.state ≡ Away → ⊥
-      clash h = let z : ◌≡◌ {A = ℕ} 0 1 = cc in omega arith
+      clash h = cc
 
       way : way_of sh x.command.target x.command.lun x.command.bytes ≡ In
       way = subst (λ (d : List ℕ). way_of sh x.command.target x.command.lun d ≡ In) ws.1 o.in_way
@@ -110,7 +110,7 @@ module _ (sh : Model) (f f' : Name → Option Nexus) (m : List ℕ) (x : Entry) 
       ws = was_sent x.sent y.command x.command.bytes o.sent u.command o.commanded
 
       clash : x.state ≡ Away → ⊥
-      clash h = let z : ◌≡◌ {A = ℕ} 0 1 = cc in omega arith
+      clash h = cc
 
       not_in : (w : Way) → is_out w ≡ true → is_in w ≡ false
       not_in Still h = refl
@@ -173,7 +173,7 @@ module _ (sh : Model) (f f' : Name → Option Nexus) (m : List ℕ) (x : Entry) 
       some q = cc
 
       in_out : (w : Way) → w ≡ In → w ≡ Out → ⊥
-      in_out w a b = let z : ◌≡◌ {A = ℕ} 0 1 = cc in omega arith
+      in_out w a b = cc
 
       by : {g : Option ℕ} (b : Bool) → same_name (record { target = x.command.target; lun = x.command.lun; tag = g }) (name_for k x.command) ≡ b
           → way_of sh x.command.target x.command.lun o.sent ≡ Out → (g' : Option ℕ) (z : Nexus) (d : List ℕ) → f' (record { target = x.command.target; lun = x.command.lun; tag = g }) ≡ Some z
@@ -204,7 +204,7 @@ module _ (sh : Model) (f f' : Name → Option Nexus) (m : List ℕ) (x : Entry) 
       }
     where
       clash : x.state ≡ Away → ⊥
-      clash h = let z : ◌≡◌ {A = ℕ} 0 1 = cc in omega arith
+      clash h = cc
 
   -- RESTORE POINTERS
   pub restoring : x.state ≡ Connected → y.status ≡ None → Underway sh f' m (with_pointers x.saved x.saved x) p (restored y)
@@ -241,7 +241,7 @@ module _ (sh : Model) (f f' : Name → Option Nexus) (m : List ℕ) (x : Entry) 
       }
     where
       clash : Away ≡ Connected → ⊥
-      clash h = let z : ◌≡◌ {A = ℕ} 0 1 = cc in omega arith
+      clash h = cc
 
   -- reselection
   pub returning : x.state ≡ Away → Underway sh f' m (with_state Connected (with_pointers x.saved x.saved x)) p y
@@ -261,7 +261,7 @@ module _ (sh : Model) (f f' : Name → Option Nexus) (m : List ℕ) (x : Entry) 
       }
     where
       clash : Connected ≡ Away → ⊥
-      clash h = let z : ◌≡◌ {A = ℕ} 0 1 = cc in omega arith
+      clash h = cc
 
 -- a fresh nexus
 pub beginning : (sh : Model) (f : Name → Option Nexus) (m : List ℕ) (x : Entry) (p : ℕ → ℕ) (leave : Bool)

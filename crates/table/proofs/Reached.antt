@@ -1,5 +1,5 @@
 -- DONE is reached: one command over a bus that keeps the rules. Assumes nothing.
-use Rattle.std.proofs.Common.{◌≡◌, ℕ, true, false, List, [], ◌∷◌, Some, None, Ok, sym, refl, ap, arith}
+use Rattle.std.proofs.Common.{◌≡◌, true, false, List, [], ◌∷◌, Some, None, Ok, sym, refl, ap, arith}
 use Rattle.scsi.specs.Greetings.{greeting_of}
 use Rattle.shelf.specs.Model.{Model}
 use Rattle.shelf.specs.Laws.{Laws}
@@ -82,30 +82,30 @@ abbrev e₅ : Engine
 e₅ = finish_by e₄ 1 (e₄.slots 1) Done
 
 no : {A : Type 0} → true ≡ false → A
-no h = let z : ◌≡◌ {A = ℕ} 0 1 = cc in absurd (omega arith)
+no h = absurd cc
 
 did₁ : Did bus₀ (Call.select 0 (128 ∷ [])) selected bus₁
 did₁ = record {
   turned_down = refl;
-  number = λ n e. let z : ◌≡◌ {A = ℕ} 0 1 = cc in absurd (omega arith);
+  number = λ n e. absurd cc;
   kept = λ h. no (sym h);
-  byte = λ v h q. let z : ◌≡◌ {A = ℕ} 0 1 = cc in absurd (omega arith);
+  byte = λ v h q. absurd cc;
   keeps_rules = λ _ _. record { rule = (refl, refl); shows = (_, refl, (refl, refl)); order = refl };
 }
 
 did₂ : Did bus₁ (Call.command (0 ∷ 0 ∷ 0 ∷ 0 ∷ 0 ∷ 0 ∷ [])) done bus₂
 did₂ = record {
   turned_down = refl;
-  number = λ n e. let z : ◌≡◌ {A = ℕ} 0 1 = cc in absurd (omega arith);
+  number = λ n e. absurd cc;
   kept = λ h. no (sym h);
-  byte = λ v h q. let z : ◌≡◌ {A = ℕ} 0 1 = cc in absurd (omega arith);
-  keeps_rules = λ _ _. record { rule = refl; shows = (_, refl, record { sent = _; commanded = refl; before_status = refl; at_count = refl; the_status = refl; alone = λ h. let z : ◌≡◌ {A = ℕ} 0 1 = cc in absurd (omega arith) }); order = refl };
+  byte = λ v h q. absurd cc;
+  keeps_rules = λ _ _. record { rule = refl; shows = (_, refl, record { sent = _; commanded = refl; before_status = refl; at_count = refl; the_status = refl; alone = λ h. absurd cc }); order = refl };
 }
 
 did₃ : Did bus₂ Call.take (took 0) bus₃
 did₃ = record {
   turned_down = refl;
-  number = λ n e. let z : ◌≡◌ {A = ℕ} 0 1 = cc in absurd (omega arith);
+  number = λ n e. absurd cc;
   kept = λ h. no (sym h);
   byte = λ v h q. let z : 0 ≡ v = cc in ap took z;
   keeps_rules = λ _ _. record { rule = refl; shows = (_, refl, refl); order = refl };
@@ -114,7 +114,7 @@ did₃ = record {
 did₄ : Did bus₃ Call.take (took 0) bus₄
 did₄ = record {
   turned_down = refl;
-  number = λ n e. let z : ◌≡◌ {A = ℕ} 0 1 = cc in absurd (omega arith);
+  number = λ n e. absurd cc;
   kept = λ h. no (sym h);
   byte = λ v h q. let z : 0 ≡ v = cc in ap took z;
   keeps_rules = λ _ _. record { rule = refl; shows = (refl, tt); order = refl };

@@ -1,5 +1,5 @@
 -- Soundness over every list of calls, on every bus. Assumes nothing.
-use Rattle.std.proofs.Common.{◌≡◌, ℕ, zero, suc, Bool, true, false, not, ◌&&◌, ◌||◌, List, [], ◌∷◌, ◌++◌, length, get_or, set, Some, None, Ok, Err, Option, sym, refl, ap, ◌∙◌, subst, arith, length-set, get_or-set_other}
+use Rattle.std.proofs.Common.{◌≡◌, ℕ, zero, suc, Bool, true, false, not, ◌&&◌, ◌||◌, List, [], ◌∷◌, ◌++◌, length, get_or, set, Some, None, Ok, Err, Option, sym, refl, ap, ◌∙◌, subst, length-set, get_or-set_other}
 use Rattle.std.proofs.Math.Bool.{and-false, or-false, or-true}
 use Rattle.std.proofs.lemmas.Bool.{and_parts, eq-eqb, ne_eqb, not-true}
 use Rattle.bus.specs.State.{BusState}
@@ -125,7 +125,7 @@ module _ (e : Engine) (o : Sound e) where
       }
     where
       differ : Connected ≡ Finished r → ⊥
-      differ h = let z : ◌≡◌ {A = ℕ} 0 1 = cc in omega arith
+      differ h = cc
 
   -- a finished slot put back
   pub put_back_sound : (k : ℕ) → is_finished (e.slots k).state ≡ true → Sound (put_back k e)

@@ -1,5 +1,5 @@
 -- What one test of a slot's state, of the line or of what is shown says of another. Assumes nothing.
-use Rattle.std.proofs.Common.{◌≡◌, ℕ, Bool, true, false, not, eqb, List, Some, None, refl, arith}
+use Rattle.std.proofs.Common.{◌≡◌, ℕ, Bool, true, false, not, eqb, List, Some, None, refl}
 use Rattle.std.proofs.lemmas.Bool.{and_parts, eqb-true, cond_both}
 use Rattle.bus.specs.declared.Shown.{Shown}
 use Rattle.bus.specs.declared.Shown.TheVariants.{DataOut, DataIn, Command, Status, Reserved4, Reserved5, MessageOut, MessageIn, Free as FreeLine, Reselect, Pause}
@@ -132,16 +132,16 @@ abbrev pub Unheld : Line → Type 0
 Unheld l = (k : ℕ) (bs : List ℕ) → l ≡ held k bs → ⊥
 
 pub idle_unheld : Unheld idle
-idle_unheld k bs h = let z : ◌≡◌ {A = ℕ} 0 1 = cc in omega arith
+idle_unheld k bs h = cc
 
 pub greeted_unheld : (t : ℕ) → Unheld (greeted t)
-greeted_unheld t k bs h = let z : ◌≡◌ {A = ℕ} 0 1 = cc in omega arith
+greeted_unheld t k bs h = cc
 
 pub named_unheld : (t l : ℕ) → Unheld (named t l)
-named_unheld t l k bs h = let z : ◌≡◌ {A = ℕ} 0 1 = cc in omega arith
+named_unheld t l k bs h = cc
 
 pub tag_due_unheld : (t l : ℕ) → Unheld (tag_due t l)
-tag_due_unheld t l k bs h = let z : ◌≡◌ {A = ℕ} 0 1 = cc in omega arith
+tag_due_unheld t l k bs h = cc
 
 pub told_is : (j k : ℕ) → is_told j k ≡ true → k ≡ j
 told_is j k h = eqb-true k j (and_parts (not (eqb k 0)) (eqb k j) h).1
@@ -162,7 +162,7 @@ message_is (Reselect t) h = wrong false h refl
 message_is Pause h = wrong false h refl
 
 no_target : {A : Type 0} {t : ℕ} → None ≡ Some t → A
-no_target h = let z : ◌≡◌ {A = ℕ} 0 1 = cc in absurd (omega arith)
+no_target h = absurd cc
 
 pub reselect_is : (s : Shown) (t : ℕ) → target_shown s ≡ Some t → s ≡ Reselect t
 reselect_is DataOut t h = no_target h

@@ -19,7 +19,7 @@ use Rattle.table.proofs.Callings.{Called, refused_call, quiet_inv, quiet_once, r
 
 -- the tests that passed
 passed : (t : Bool) (n : ℕ) (o : Option ℕ) → cond t (Some n) o ≡ None → (t ≡ false) × (o ≡ None)
-passed true n o h = let z : ◌≡◌ {A = ℕ} 0 1 = cc in absurd (omega arith)
+passed true n o h = absurd cc
 passed false n o h = (refl, h)
 
 -- what the earlier tests leave
@@ -51,7 +51,7 @@ never_7 e r m =
     (small (not (well_sized r.bytes)) 3 _ m (omega arith)
     (small (ltb 2 r.manner || (ltb 2 r.direction || (eqb r.direction 0 && not (eqb r.length 0)))) 4 _ m (omega arith)
     (small (ltb e.size (r.base + r.length)) 5 _ m (omega arith)
-    (small (not (every 16 (clear_of e (command_asked r)))) 6 None m (omega arith) (λ h. let z : ◌≡◌ {A = ℕ} 0 1 = cc in absurd (omega arith)))))))
+    (small (not (every 16 (clear_of e (command_asked r)))) 6 None m (omega arith) (λ h. absurd cc))))))
 
 -- regions that share no byte are apart
 share_apart : (b n c m : ℕ) → share b n c m ≡ false → (i j : ℕ) → i < n → j < m → b + i ≡ c + j → ⊥
@@ -177,7 +177,7 @@ module _ (w : World) (s : Serving) (i : Inv w s) (r : Request) where
                     (put_here k false (s.reported k)) (λ j ne. put_there j k false (s.reported j) ne ∙ i.told j);
               });
           answered = record {
-            only = λ h. let z : ◌≡◌ {A = ℕ} 0 1 = cc in absurd (omega arith);
+            only = λ h. absurd cc;
             always = λ h _. absurd (not_full h);
           };
           once = quiet_once w.engine e' _ s fin (λ j. refl);
@@ -200,7 +200,7 @@ module _ (w : World) (s : Serving) (i : Inv w s) (r : Request) where
       go (Some n) q f g p t = to (Err n) w p t
           (submit_refused n (record {
             only = λ h. let l = never_7 w.engine r n q in let z : n ≡ 7 = cc in absurd (omega arith);
-            always = λ _ h. let z : ◌≡◌ {A = ℕ} 0 1 = cc in absurd (omega arith);
+            always = λ _ h. absurd cc;
           }))
       go None q [] g p t = to (Err 7) w (p ∙ ap ticket_or_7 g) (t ∙ ap (λ (l : List ℕ). record { engine = taken_in (command_asked r) l w.engine; bus = w.bus; memory = w.memory }) g)
           (submit_refused 7 (record { only = λ _. (full_count g, q); always = λ _ _. refl }))

@@ -23,8 +23,8 @@ command_of c = record {
   manner = c.manner;
   direction = c.direction;
   bytes = cdb_bytes c.bytes;
-  base = c.base;
-  length = c.length;
+  base = c.region.base;
+  length = c.region.length;
 }
 
 abbrev pub entry_of : Slot → Entry
@@ -35,7 +35,7 @@ abbrev pub no_slot : Slot
 no_slot = record {
   next = 0;
   state = Free;
-  command = record { unit = record { target = 0; lun = 0 }; manner = Plain; direction = Still; bytes = Six []; base = 0; length = 0 };
+  command = record { unit = record { target = 0; lun = 0 }; manner = Plain; direction = Still; bytes = Six []; region = record { base = 0; length = 0 } };
   current = 0;
   saved = 0;
   sent = false;
@@ -100,7 +100,7 @@ abbrev pub fresh_slot : ℕ → Slot
 fresh_slot n = record {
   next = n;
   state = Free;
-  command = record { unit = record { target = 0; lun = 0 }; manner = Plain; direction = Still; bytes = Six (0 ∷ 0 ∷ 0 ∷ 0 ∷ 0 ∷ 0 ∷ []); base = 0; length = 0 };
+  command = record { unit = record { target = 0; lun = 0 }; manner = Plain; direction = Still; bytes = Six (0 ∷ 0 ∷ 0 ∷ 0 ∷ 0 ∷ 0 ∷ []); region = record { base = 0; length = 0 } };
   current = 0;
   saved = 0;
   sent = false;

@@ -10,7 +10,13 @@ use Rattle.whim_bus.specs.View.{row_of}
 
 -- a row that never had a nexus, with n out bytes
 abbrev pub unused : ℕ → KeptRow
-unused n = record { target = 0; greeting = record { lun = 0; leave = false; tag = None }; stage = Empty; place = 0; saved = 0; out = replicate n 0 }
+unused n = record {
+  opened = record { target = 0; greeting = record { lun = 0; leave = false; tag = None } };
+  stage = Empty;
+  place = 0;
+  saved = 0;
+  out = replicate n 0;
+}
 
 nothing_written : (n i : ℕ) → get_or {A = ℕ} (replicate n 0) i 0 ≡ 0
 nothing_written zero i = refl

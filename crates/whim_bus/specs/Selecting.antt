@@ -30,10 +30,10 @@ low_greeting b tag g = go (nat_le 0x80 b)
     go true e =
         let same : record { lun = lun_of b; leave = permits_leave b; tag = tag } ≡ g = cc in
         ap (λ (x : Greeting). ltb x.lun 8) (sym same) ∙ lt-ltb (b % 8) 8 (omega arith)
-    go false e = let z : ◌≡◌ {A = ℕ} 0 1 = cc in absurd (omega arith)
+    go false e = absurd cc
 
 no_greeting : (g : Greeting) (A : Type 0) → ◌≡◌ {A = Option Greeting} None (Some g) → A
-no_greeting g A e = let z : ◌≡◌ {A = ℕ} 0 1 = cc in absurd (omega arith)
+no_greeting g A e = absurd cc
 
 pub greeting_low : (bs : List ℕ) (g : Greeting) → greeting_of bs ≡ Some g → nat_lt g.lun 8 ≡ true
 greeting_low [] g e = no_greeting g _ e

@@ -26,13 +26,13 @@ use Rattle.whim_bus.specs.Sound.{is_sound, each_at, low_lun, underway_placed}
 ---- no reader
 
 stage_reader : (m : Model) (t l : ℕ) (d : List ℕ) (g : Stage) → command_sent g ≡ Some d → way_of m t l d ≡ In → stage_reads m t l g ≡ true
-stage_reader m t l d empty e w = let z : ◌≡◌ {A = ℕ} 0 1 = cc in absurd (omega arith)
-stage_reader m t l d fresh e w = let z : ◌≡◌ {A = ℕ} 0 1 = cc in absurd (omega arith)
+stage_reader m t l d empty e w = absurd cc
+stage_reader m t l d fresh e w = absurd cc
 stage_reader m t l d (commanded c) e w = let same : c ≡ d = cc in ap (λ (x : List ℕ). is_in (way_of m t l x)) same ∙ ap is_in w
 stage_reader m t l d (ended c st) e w = let same : c ≡ d = cc in ap (λ (x : List ℕ). is_in (way_of m t l x)) same ∙ ap is_in w
 
 no_reader : (m : Model) (rs : List Row) (t l : ℕ) → list_any (reads m t l) rs ≡ false → NoReader m (found m rs) t l
-no_reader m [] t l h k y d e c w = let z : ◌≡◌ {A = ℕ} 0 1 = cc in omega arith
+no_reader m [] t l h k y d e c w = cc
 no_reader m (r ∷ rs) t l h k y d e c w =
     go (is_named (record { target = t; lun = l; tag = k }) r) refl e (no_reader m rs t l (or_parts (reads m t l r) _ h).1 k y d)
   where

@@ -17,8 +17,8 @@ stage_of (Ended d st) = ended (cdb_bytes d) st
 
 abbrev pub row_of : KeptRow → Row
 row_of r = record {
-  target = r.target;
-  greeting = r.greeting;
+  target = r.opened.target;
+  greeting = r.opened.greeting;
   stage = stage_of r.stage;
   place = r.place;
   saved = r.saved;

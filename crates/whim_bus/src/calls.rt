@@ -11,7 +11,7 @@ ghost use Rattle.std.proofs.Common.{rules};
 
 use crate::rows::Row;
 use crate::state::{Line, WhimBus};
-use bus::{Bus, Refusal, Selection, Shown, is_abort};
+use bus::{Bus, Opened, Refusal, Selection, Shown, is_abort};
 use scsi::{Cdb, Greeting};
 use shelf::Shelf;
 
@@ -60,8 +60,9 @@ impl<S: Shelf> Bus for WhimBus<S> {
             return Err(Refusal::Misfit);
         }
         let greeting = Greeting::read(greeting).ok_or(Refusal::Misfit)?;
-        let k = self.room_for(target, &greeting).ok_or(Refusal::Misfit)?;
-        let selection = self.choose(k, target, greeting);
+        let opened = Opened { target, greeting };
+        let k = self.room_for(&opened).ok_or(Refusal::Misfit)?;
+        let selection = self.choose(k, opened);
         self.settle();
         Ok(selection)
     }

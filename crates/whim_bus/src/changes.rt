@@ -14,8 +14,8 @@ ghost use Rattle.whim_bus.specs.View.{row_of, view};
 
 use crate::rows::{Row, clear, is_odd};
 use crate::state::{Heard, Line, WhimBus};
-use bus::{Selection, Stage};
-use scsi::{Cdb, Greeting};
+use bus::{Opened, Selection, Stage};
+use scsi::Cdb;
 use shelf::Shelf;
 
 impl<S: Shelf> WhimBus<S> {
@@ -47,48 +47,48 @@ impl<S: Shelf> WhimBus<S> {
         }
     }
 
-    // Whether a nexus of this name is open.
-    fn any_named(&self, target: u8, greeting: &Greeting) -> bool
-        ensures { result ≡ list_any (is_named (name_of target greeting.now)) (view S.Shelf.model self.now).rows }
+    // Whether the nexus that would be opened so is open already.
+    fn any_named(&self, opened: &Opened) -> bool
+        ensures { result ≡ list_any (is_named (name_of opened.now.target opened.now.greeting)) (view S.Shelf.model self.now).rows }
     {
-        self.rows.iter().any(|row| row.is_named(target, greeting))
+        self.rows.iter().any(|row| row.is_named(opened))
     }
 
-    // The row for a nexus that this greeting opens: none where its nexus is open, or every row is taken.
-    pub(crate) fn room_for(&self, target: u8, greeting: &Greeting) -> Option<usize>
-        ensures first { result ≡ cond (greeting_refused (cable (view S.Shelf.model self.now)) target (Some greeting.now)) None (Some (position_or_len is_empty (view S.Shelf.model self.now).rows)) }
+    // The row for a nexus that would be opened so: none where it is open already, or every row is taken.
+    pub(crate) fn room_for(&self, opened: &Opened) -> Option<usize>
+        ensures first { result ≡ cond (greeting_refused (cable (view S.Shelf.model self.now)) opened.now.target (Some opened.now.greeting)) None (Some (position_or_len is_empty (view S.Shelf.model self.now).rows)) }
         ensures in_rows { IfSome result (λ k. k < 16) }
     {
-        if self.any_named(target, greeting) {
+        if self.any_named(opened) {
             return None;
         }
         self.rows.iter().position(|row| !row.is_open())
     }
 
     // Opens a fresh nexus in this row, and has it hold the line.
-    fn open_row(&mut self, k: usize, target: u8, greeting: Greeting)
+    fn open_row(&mut self, k: usize, opened: Opened)
         requires { k < 16 }
-        ensures { view S.Shelf.model self.new ≡ opens_row target greeting k (view S.Shelf.model self.old) }
+        ensures { view S.Shelf.model self.new ≡ opens_row opened.target opened.greeting k (view S.Shelf.model self.old) }
     {
-        self.rows[k].open(target, greeting);
+        self.rows[k].open(opened);
         self.line = Line::Held(k);
     }
 
     // A selection that has this row: a present target draws, and odd is lost.
-    pub(crate) fn choose(&mut self, k: usize, target: u8, greeting: Greeting) -> Selection
+    pub(crate) fn choose(&mut self, k: usize, opened: Opened) -> Selection
         requires in_rows { k < 16 }
         requires first { k ≡ position_or_len is_empty (view S.Shelf.model self.old).rows }
-        ensures reply { selection_reply result ≡ selection target (view S.Shelf.model self.old) }
-        ensures after { view S.Shelf.model self.new ≡ selects target (Some greeting) (view S.Shelf.model self.old) }
+        ensures reply { selection_reply result ≡ selection opened.target (view S.Shelf.model self.old) }
+        ensures after { view S.Shelf.model self.new ≡ selects opened.target (Some opened.greeting) (view S.Shelf.model self.old) }
     {
-        if !self.shelf.present(target) {
+        if !self.shelf.present(opened.target) {
             return Selection::Absent;
         }
         self.draw_next();
         if is_odd(self.draw) {
             return Selection::Lost;
         }
-        self.open_row(k, target, greeting);
+        self.open_row(k, opened);
         Selection::Selected
     }
 
@@ -130,7 +130,8 @@ impl<S: Shelf> WhimBus<S> {
         }
     }
 
-    // SAVE DATA POINTER, RESTORE POINTERS or DISCONNECT to the nexus in this row, which holds the line.
+    // SAVE DATA POINTER, RESTORE POINTERS or DISCONNECT to the nexus in this row, which holds the line: by the byte, since a
+    // bus shows and takes bytes, and to read a message of one byte would be longer.
     fn hear_underway(&mut self, byte: u8, k: usize)
         requires { k < 16 }
         ensures { view S.Shelf.model self.new ≡ hears byte k (row (view S.Shelf.model self.old) k) (view S.Shelf.model self.old) }
@@ -223,7 +224,7 @@ fn comes_back(k: usize, row: &Row, heard: Heard) -> Line
     ensures same_row { row_number result ≡ k }
 {
     match heard {
-        Heard::Nothing if row.greeting.tag.is_some() => Line::Retaken(k, Heard::Named),
+        Heard::Nothing if row.opened.greeting.tag.is_some() => Line::Retaken(k, Heard::Named),
         Heard::Named => Line::Retaken(k, Heard::TagDue),
         Heard::Nothing | Heard::TagDue => Line::Held(k),
     }

@@ -8,15 +8,14 @@ ghost use Rattle.whim_bus.specs.State.{odd};
 ghost use Rattle.whim_bus.specs.Text.{is_underway, sent, ending};
 ghost use Rattle.whim_bus.specs.View.{row_of};
 
-use bus::Stage;
+use bus::{Opened, Stage};
 use scsi::{Cdb, Greeting};
 use shelf::{Shelf, Unit, Way};
 
-/// A row: the nexus's target and greeting, how far it has come, its place in the data and its saved place, and its out bytes by place.
+/// A row: what its nexus was opened with, how far it has come, its place in the data and its saved place, and its out bytes by place.
 #[derive(Drop)]
 pub struct Row {
-    pub(crate) target: u8,
-    pub(crate) greeting: Greeting,
+    pub(crate) opened: Opened,
     pub(crate) stage: Stage,
     pub(crate) place: u16,
     pub(crate) saved: u16,
@@ -26,11 +25,13 @@ pub struct Row {
 impl Row {
     /// A row that never had a nexus.
     pub(crate) const BLANK: Row = Row {
-        target: 0,
-        greeting: Greeting {
-            lun: 0,
-            leave: false,
-            tag: None,
+        opened: Opened {
+            target: 0,
+            greeting: Greeting {
+                lun: 0,
+                leave: false,
+                tag: None,
+            },
         },
         stage: Stage::Empty,
         place: 0,
@@ -52,31 +53,18 @@ impl Row {
         matches!(self.stage, Stage::Commanded(_))
     }
 
-    /// The unit of its nexus.
-    pub(crate) fn unit(&self) -> Unit
-        ensures { result ≡ record { target = self.now.target; lun = self.now.greeting.lun } }
+    /// Whether it has the nexus that would be opened so.
+    pub(crate) fn is_named(&self, opened: &Opened) -> bool
+        ensures { result ≡ is_named (name_of opened.now.target opened.now.greeting) (row_of self.now) }
     {
-        Unit {
-            target: self.target,
-            lun: self.greeting.lun,
-        }
-    }
-
-    /// Whether it is that of the nexus which this greeting of the target opens.
-    pub(crate) fn is_named(&self, target: u8, greeting: &Greeting) -> bool
-        ensures { result ≡ is_named (name_of target greeting.now) (row_of self.now) }
-    {
-        self.is_open()
-            && target == self.target
-            && greeting.lun == self.greeting.lun
-            && greeting.tag == self.greeting.tag
+        self.is_open() && opened.same_name(&self.opened)
     }
 
     /// Whether its nexus is of this unit, and was sent an in command.
     pub(crate) fn reads<S: Shelf>(&self, shelf: &S, unit: Unit) -> bool
         ensures { result ≡ reads (S.Shelf.model shelf.now) unit.target unit.lun (row_of self.now) }
     {
-        self.unit() == unit
+        self.opened.unit() == unit
             && match &self.stage {
                 Stage::Empty | Stage::Fresh => false,
                 Stage::Commanded(command) | Stage::Ended(command, _) => {
@@ -86,11 +74,10 @@ impl Row {
     }
 
     /// A fresh nexus takes the row.
-    pub(crate) fn open(&mut self, target: u8, greeting: Greeting)
-        ensures { row_of self.new ≡ taken_by target greeting (row_of self.old) }
+    pub(crate) fn open(&mut self, opened: Opened)
+        ensures { row_of self.new ≡ taken_by opened.target opened.greeting (row_of self.old) }
     {
-        self.target = target;
-        self.greeting = greeting;
+        self.opened = opened;
         self.stage = Stage::Fresh;
         self.place = 0;
         self.saved = 0;
@@ -163,9 +150,9 @@ impl Row {
 
     /// Has the shelf serve the command with the bytes of the row.
     pub(crate) fn serve<S: Shelf>(&self, shelf: &mut S, command: &Cdb)
-        ensures { S.Shelf.model shelf.new ≡ served (S.Shelf.model shelf.old) self.now.target self.now.greeting.lun (cdb_bytes command.now) (row_of self.now).bytes }
+        ensures { S.Shelf.model shelf.new ≡ served (S.Shelf.model shelf.old) self.now.opened.target self.now.opened.greeting.lun (cdb_bytes command.now) (row_of self.now).bytes }
     {
-        let unit = self.unit();
+        let unit = self.opened.unit();
         let bytes = command.as_slice();
         let (way, count) = shelf.way(unit, bytes);
         let _ = shelf.finish(unit, bytes, self.given(way, count));

@@ -19,11 +19,11 @@ impl Row {
     {
         match heard {
             Heard::Nothing => {
-                let [first] = identify(false, self.greeting.lun);
+                let [first] = identify(false, self.opened.greeting.lun);
                 Shown::MessageIn(first)
             }
             Heard::Named => Shown::MessageIn(0x20),
-            Heard::TagDue => Shown::MessageIn(self.greeting.tag.unwrap_or(0)),
+            Heard::TagDue => Shown::MessageIn(self.opened.greeting.tag.unwrap_or(0)),
         }
     }
 
@@ -33,7 +33,7 @@ impl Row {
     {
         if self.saved != self.place {
             Shown::MessageIn(0x02)
-        } else if self.greeting.leave {
+        } else if self.opened.greeting.leave {
             Shown::MessageIn(0x04)
         } else {
             Shown::Pause
@@ -53,7 +53,7 @@ impl<S: Shelf> WhimBus<S> {
     fn next_shown(&self, row: &Row, command: &Cdb) -> Shown
         ensures { result ≡ next_shown (S.Shelf.model self.now.shelf) (view S.Shelf.model self.now).rows (row_of row.now) (cdb_bytes command.now) }
     {
-        let unit = row.unit();
+        let unit = row.opened.unit();
         let bytes = command.as_slice();
         let (way, count) = self.shelf.way(unit, bytes);
         if row.place < count {
@@ -76,7 +76,7 @@ impl<S: Shelf> WhimBus<S> {
         match self.draw % 4 {
             1 => Shown::MessageIn(0x02),
             2 => Shown::MessageIn(0x03),
-            3 if row.greeting.leave => Shown::MessageIn(0x04),
+            3 if row.opened.greeting.leave => Shown::MessageIn(0x04),
             _ => self.next_shown(row, command),
         }
     }
@@ -109,7 +109,7 @@ impl<S: Shelf> WhimBus<S> {
         ensures { result ≡ free_shown (view S.Shelf.model self.now) }
     {
         match self.returner() {
-            Some(k) => Shown::Reselect(self.rows[k].target),
+            Some(k) => Shown::Reselect(self.rows[k].opened.target),
             None => Shown::Free,
         }
     }

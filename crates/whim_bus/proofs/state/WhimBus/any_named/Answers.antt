@@ -10,5 +10,5 @@ use Rattle.whim_bus.proofs.state.WhimBus.any_named.Goals as goal
 pub returns : goal.returns
 returns g c =
     let rows = c.args.self.now.rows in
-    let named = is_named (name_of c.args.target c.args.greeting.now) in
+    let named = is_named (name_of c.args.opened.now.target c.args.opened.now.greeting) in
     any_from_yields_List (λ x. named (row_of x)) _ _ _ c.any.ensures.ran (YieldsList-from_slice rows cc) (λ x b q k. search (rules, tests)) ∙ any_row named rows
