@@ -3,17 +3,18 @@
 
 ghost use Rattle.std.specs.Prelude.{◌≡◌, true};
 ghost use Rattle.shelf.specs.Laws.{Laws};
+ghost use Rattle.shelf.specs.Model.{byte_of};
 ghost use Rattle.bus.specs.State.{BusState, same_name};
 ghost use Rattle.bus.specs.Calls.{Call, Reply, selection_or_refused, took_or_refused, done_or_refused};
 ghost use Rattle.bus.specs.Refusals.{name_of};
 ghost use Rattle.bus.specs.Effects.{aborts};
-ghost use Rattle.bus.specs.Showing.{Shows};
+ghost use Rattle.bus.specs.Showing.{Shows, data_shown};
 ghost use Rattle.bus.specs.Rules.{Did, PausingIsAllowed};
 ghost use Rattle.bus.specs.Counting.{AlwaysCounted};
 ghost use Rattle.bus.specs.Kinds.{kind_of, byte_shown};
 
 use scsi::{Cdb, Greeting};
-use shelf::Unit;
+use shelf::{Shelf, Unit, Way};
 use std::error::Error;
 use std::fmt;
 
@@ -34,6 +35,7 @@ pub enum Shown {
 }
 
 impl Shown {
+    // By a match: `as` takes no enum whose cases hold something.
     /// The number of its kind.
     pub fn kind(self) -> u8
         ensures { result ≡ kind_of self }
@@ -64,6 +66,18 @@ impl Shown {
     }
 }
 
+/// What is shown while a data byte of a command that goes this way is due.
+pub fn data_shown<S: Shelf>(shelf: &S, unit: Unit, command: &[u8], way: Way, place: u16) -> Shown
+    ensures { result ≡ data_shown way (byte_of (S.Shelf.model shelf.now) unit.target unit.lun command.now place) }
+{
+    match way {
+        Way::Still => Shown::Pause,
+        Way::In => Shown::DataIn(shelf.byte(unit, command, place)),
+        Way::Out => Shown::DataOut,
+    }
+}
+
+// Empty is a stage like the others, no option's None: what is shown, taken and spoken is told by all four together.
 /// How far the nexus has come, if there is one: it is fresh, has its command, or has its command and its status.
 #[derive(Clone, Copy, PartialEq, Eq, Debug)]
 pub enum Stage {
@@ -81,6 +95,16 @@ pub struct Opened {
 }
 
 impl Opened {
+    /// What stands where no nexus was opened yet.
+    pub const NONE: Opened = Opened {
+        target: 0,
+        greeting: Greeting {
+            lun: 0,
+            leave: false,
+            tag: None,
+        },
+    };
+
     /// The unit of its nexus.
     pub fn unit(&self) -> Unit
         ensures { result ≡ record { target = self.now.target; lun = self.now.greeting.lun } }
@@ -154,6 +178,7 @@ pub trait Bus {
     fn look(&self) -> Shown
         ensures { result ≡ (means self.now).shown };
 
+    // The greeting as it is sent: bytes that are none are refused.
     /// Selects a target with a greeting, to open a nexus that holds the line.
     fn select(&mut self, target: u8, greeting: &[u8]) -> Result<Selection, Refusal>
         ensures { did self.old (Call.select target greeting.now) (selection_or_refused result) self.new };

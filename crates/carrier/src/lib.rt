@@ -70,6 +70,7 @@ impl From<Refusal> for Trouble {
 }
 
 // What goes out to a unit: a command's bytes, and the data bytes that it may ask for.
+// `into` apart: in a struct each clause would have to say that it is still the same reference.
 #[derive(Clone, Copy)]
 struct Sent<'a> {
     command: &'a [u8],

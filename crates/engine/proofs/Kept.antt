@@ -201,12 +201,15 @@ finished_unconnected (Finished o) h = refl
 
 module _ (e : Kept) where
   -- a finished slot is put back
-  module _ (k : ℕ) (y : Slot) (same : entry_of y ≡ (view e.state).slots k) (fin : is_finished y.state ≡ true) where
+  module _ (k : ℕ) (y : Slot) (m : numbered k ≡ true) (q : y ≡ slot_at e.state.slots k) (fin : is_finished (slot_at e.state.slots k).state ≡ true) where
+    same : entry_of y ≡ (view e.state).slots k
+    same = let r = numbered_is k m in ap entry_of q ∙ sym (entry_here e.state.slots k r.0 r.1)
+
     abbrev x : Slot
     x = freed e.state.free y
 
     finished : is_finished ((view e.state).slots k).state ≡ true
-    finished = sym (ap (λ (z : Entry). is_finished z.state) same) ∙ fin
+    finished = sym (ap (λ (z : Entry). is_finished z.state) same) ∙ ap (λ (z : Slot). is_finished z.state) q ∙ fin
 
     abbrev fields : Slots
     fields = record { slots = set e.state.slots (k - 1) x; free = k; waiting = e.state.waiting; line = e.state.line; begun = e.state.begun; size = e.state.size }

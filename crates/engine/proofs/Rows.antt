@@ -1,26 +1,30 @@
 -- Which row of the step table the code is in. Assumes nothing.
-use Rattle.std.proofs.Common.{◌≡◌, ℕ, ◌-◌, ◌<◌, ◌≤◌, Bool, true, false, cond, ltb, leb, List, [], ◌∷◌, ◌++◌, Some, None, Option, sym, refl, ap, ◌∙◌}
+use Rattle.std.proofs.Common.{◌≡◌, ℕ, ◌+◌, ◌-◌, ◌<◌, ◌≤◌, Bool, true, false, cond, ltb, leb, List, [], ◌∷◌, ◌++◌, Some, None, Option, Ok, Err, Result, sym, refl, ap, ◌∙◌}
 use Rattle.bus.specs.declared.Shown.{Shown}
 use Rattle.bus.specs.declared.Shown.TheVariants.{DataOut, DataIn, Command, Status, Reserved4, Reserved5, MessageOut, MessageIn, Free, Reselect, Pause}
 use Rattle.scsi.specs.declared.greeting.Greeting.{Greeting}
 use Rattle.scsi.specs.Greetings.{greeting_bytes}
-use Rattle.bus.specs.Calls.{select, take}
+use Rattle.bus.specs.Calls.{select, take, give}
+use Rattle.shelf.specs.declared.Way.TheVariants.{In, Out}
+use Rattle.slots.specs.declared.answer.Answer.TheVariants.{Moved}
+use Rattle.slots.specs.declared.slot.Outcome.{Outcome}
+use Rattle.slots.specs.declared.slot.Outcome.TheVariants.{Overrun, WrongWay}
 use Rattle.slots.specs.declared.slot.State.TheVariants.{Away}
 use Rattle.slots.specs.declared.line.Heard.{Heard}
-use Rattle.slots.specs.declared.line.Heard.TheVariants.{Part, Complete, Save, Restore, Disconnect, Reject, Other}
+use Rattle.slots.specs.declared.line.Heard.TheVariants.{Complete, Save, Restore, Disconnect, Reject, Other}
 use Rattle.slots.specs.declared.line.Line.{Line}
 use Rattle.slots.specs.declared.line.Line.TheVariants.{Idle, Greeted, Named, TagDue, Held}
 use Rattle.slots.specs.declared.slot.Slot.{Slot}
 use Rattle.slots.specs.declared.slot.Slots.{Slots}
-use Rattle.table.specs.Engine.{Engine, Entry, Line as TableLine, idle, held, set_line, in_use, is_away, may_leave, numbered, tag_for, seek}
-use Rattle.table.specs.Script.{Script, ask}
-use Rattle.table.specs.Table.{violation, message_row, message_by, by_heard, held_by, on_held, greeting_for, away_by, untagged_at, tagged_at, on_lun, greeted_byte, named_byte, tag_byte, row}
+use Rattle.table.specs.Engine.{Engine, Entry, Line as TableLine, idle, held, set_line, in_use, is_away, is_in, is_out, may_leave, numbered, tag_for, seek}
+use Rattle.table.specs.Script.{Script, ask, return, read, write}
+use Rattle.table.specs.Table.{violation, abort_by, advance_by, data_in_by, data_out_by, message_row, message_by, by_heard, held_by, on_held, greeting_for, away_by, untagged_at, tagged_at, on_lun, greeted_byte, named_byte, tag_byte, row}
 use Rattle.table.specs.View.{view, slot_at, entry_of, line_of}
 use Rattle.table.proofs.Basics.{numbered_is}
 use Rattle.table.proofs.States.{away_is}
 use Rattle.table.proofs.Views.{entry_here}
 use Rattle.std.proofs.lemmas.Bool.{and_parts, and_from, le-leb, lt-ltb}
-use Rattle.engine.specs.Fields.{away_with}
+use Rattle.engine.specs.Fields.{away_with, place_for}
 use Rattle.engine.specs.declared.state.Engine.{Engine as Kept}
 use Rattle.engine.specs.declared.held.Held.{Held as Holder}
 use Rattle.engine.proofs.Whole.{sound_of, holder_numbered}
@@ -60,20 +64,20 @@ inside_message e k x [] s n = absurd (n refl)
 inside_message e k x (b ∷ bs) s n = refl
 
 -- what a message comes to says nothing of the line
-pub by_heard_line : (e : Engine) (l : TableLine) (k : ℕ) (x : Entry) (bs : List ℕ) (h : Heard) (o : Option ℕ) → by_heard (set_line l e) k x bs h o ≡ by_heard e k x bs h o
-by_heard_line e l k x bs Part o = refl
-by_heard_line e l k x bs Save None = refl
-by_heard_line e l k x bs Restore None = refl
-by_heard_line e l k x bs Disconnect None = refl
-by_heard_line e l k x bs Reject None = refl
-by_heard_line e l k x bs Complete None = refl
-by_heard_line e l k x bs Other None = refl
-by_heard_line e l k x bs Complete (Some t) = refl
-by_heard_line e l k x bs Save (Some t) = refl
-by_heard_line e l k x bs Restore (Some t) = refl
-by_heard_line e l k x bs Disconnect (Some t) = refl
-by_heard_line e l k x bs Reject (Some t) = refl
-by_heard_line e l k x bs Other (Some t) = refl
+pub by_heard_line : (e : Engine) (l : TableLine) (k : ℕ) (x : Entry) (bs : List ℕ) (h : Option Heard) (o : Option ℕ) → by_heard (set_line l e) k x bs h o ≡ by_heard e k x bs h o
+by_heard_line e l k x bs None o = refl
+by_heard_line e l k x bs (Some Save) None = refl
+by_heard_line e l k x bs (Some Restore) None = refl
+by_heard_line e l k x bs (Some Disconnect) None = refl
+by_heard_line e l k x bs (Some Reject) None = refl
+by_heard_line e l k x bs (Some Complete) None = refl
+by_heard_line e l k x bs (Some Other) None = refl
+by_heard_line e l k x bs (Some Complete) (Some t) = refl
+by_heard_line e l k x bs (Some Save) (Some t) = refl
+by_heard_line e l k x bs (Some Restore) (Some t) = refl
+by_heard_line e l k x bs (Some Disconnect) (Some t) = refl
+by_heard_line e l k x bs (Some Reject) (Some t) = refl
+by_heard_line e l k x bs (Some Other) (Some t) = refl
 
 -- the call that selects slot k, which is x
 pub selects : (s : Slots) (k : ℕ) (x : Slot) → numbered k ≡ true → x ≡ slot_at s.slots k → (g : Greeting) (bs : List ℕ) → bs ≡ greeting_bytes g.leave g.lun g.tag
@@ -139,3 +143,30 @@ unlisted_held e k s q n h p =
 -- the row of the line as it is kept
 pub row_of : (s : Slots) (l : Line) (z z' : Shown) → z ≡ z' → s.line ≡ l → row (view s) (line_of l s.begun.items) z ≡ row (view s) (view s).line z'
 row_of s l z z' p q = ap (row (view s) (line_of l s.begun.items)) p ∙ ap (λ (k : Line). row (view s) (line_of k s.begun.items) z') (sym q)
+
+-- a row by the place of its byte
+abbrev pub by_place : Result ℕ Outcome → (ℕ → Script) → (Outcome → Script) → Script
+by_place (Ok p) f g = f p
+by_place (Err o) f g = g o
+
+placed : (b c : Bool) (p : ℕ) (f : ℕ → Script) (g : Outcome → Script)
+    → by_place (cond b (cond c (Ok p) (Err Overrun)) (Err WrongWay)) f g ≡ cond b (cond c (f p) (g Overrun)) (g WrongWay)
+placed true true p f g = refl
+placed true false p f g = refl
+placed false c p f g = refl
+
+-- DATA IN
+pub placed_in : (e : Engine) (k : ℕ) (x : Entry) (v : ℕ) (r : Result ℕ Outcome) → r ≡ place_for In x
+    → by_place r (λ p. ask take (λ _. write p v (return (Moved k) (advance_by e k x)))) (abort_by e k x (DataIn v)) ≡ data_in_by e k x v
+placed_in e k x v r q =
+    let f = λ (p : ℕ). ask take (λ _. write p v (return (Moved k) (advance_by e k x))) in
+    ap (λ (r : Result ℕ Outcome). by_place r f (abort_by e k x (DataIn v))) q
+    ∙ placed (is_in x.command.direction) (ltb x.current x.command.length) (x.command.base + x.current) f (abort_by e k x (DataIn v))
+
+-- DATA OUT
+pub placed_out : (e : Engine) (k : ℕ) (x : Entry) (r : Result ℕ Outcome) → r ≡ place_for Out x
+    → by_place r (λ p. read p (λ v. ask (give v) (λ _. return (Moved k) (advance_by e k x)))) (abort_by e k x DataOut) ≡ data_out_by e k x
+placed_out e k x r q =
+    let f = λ (p : ℕ). read p (λ v. ask (give v) (λ _. return (Moved k) (advance_by e k x))) in
+    ap (λ (r : Result ℕ Outcome). by_place r f (abort_by e k x DataOut)) q
+    ∙ placed (is_out x.command.direction) (ltb x.current x.command.length) (x.command.base + x.current) f (abort_by e k x DataOut)

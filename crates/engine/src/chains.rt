@@ -10,7 +10,7 @@ pub(crate) fn before(slots: &[Slot; 16], head: SlotNumber, k: SlotNumber) -> Slo
     ensures { result ≡ before k head (chain 15 (nexts slots.now) (nexts slots.now head)) }
 {
     let mut at = head;
-    // By next numbers, which no iterator follows.
+    // Tried as `successors(Some(head), ..).take(16).last()`: the borrow checker does not cover a call that takes them whole.
     for _ in 0..15u8 {
         match SlotNumber::new(slots[at.place()].next) {
             Some(next) if next != k => at = next,

@@ -13,15 +13,14 @@ use arrayvec::ArrayVec;
 use slots::{Command, Line, Outcome, Slot, SlotNumber, State};
 
 impl Engine {
-    // Slot `k` is changed, and holds the line with no begun message.
-    pub(crate) fn keep(&mut self, k: SlotNumber, slot: Slot)
-        requires open { is_open (slot_at self.old.state.slots k).state ≡ true }
-        requires same_next { slot.next ≡ (slot_at self.old.state.slots k).next }
-        requires connected { slot.state ≡ State.Connected }
-        ensures { view self.new.state ≡ set_slot k (entry_of slot) (holds k []) (view self.old.state) }
+    // The slot is changed to this, and holds the line with no begun message.
+    pub(crate) fn keep(&mut self, held: Held)
+        requires open { is_open (slot_at self.old.state.slots held.k).state ≡ true }
+        requires same_next { held.slot.next ≡ (slot_at self.old.state.slots held.k).next }
+        ensures { view self.new.state ≡ set_slot held.k (entry_of held.slot) (holds held.k []) (view self.old.state) }
     {
-        self.state.slots[k.place()] = slot;
-        self.state.line = Line::Held(k);
+        self.state.slots[held.k.place()] = held.slot;
+        self.state.line = Line::Held(held.k);
         self.state.begun.clear();
     }
 
@@ -85,15 +84,14 @@ impl Engine {
     }
 
     // A finished slot goes to the free head.
-    pub(crate) fn put_back(&mut self, k: SlotNumber, slot: Slot)
-        requires as_kept { entry_of slot ≡ (view self.old.state).slots k }
-        requires finished { is_finished slot.state ≡ true }
+    pub(crate) fn put_back(&mut self, k: SlotNumber)
+        requires { is_finished (slot_at self.old.state.slots k).state ≡ true }
         ensures { view self.new.state ≡ put_back k (view self.old.state) }
     {
         self.state.slots[k.place()] = Slot {
             next: self.state.free,
             state: State::Free,
-            ..slot
+            ..self.slot(k)
         };
         self.state.free = k.get();
     }
@@ -113,7 +111,8 @@ impl Engine {
         self.state.slots[k.place()] = accepted(command);
     }
 
-    // Slot `k` leaves the waiting chain, and is changed, and the line.
+    // Slot `k` leaves the waiting chain, and is changed, and the line: a waiting slot off its chain, or another one on it, is
+    // no engine, so what it becomes comes along.
     pub(crate) fn unqueue(&mut self, k: SlotNumber, slot: Slot, line: Line)
         requires waits { stands_on k (view self.old.state).waiting ≡ true }
         requires goes_on { GoesOn k slot line }

@@ -23,7 +23,7 @@ impl Engine {
         let State::Finished(outcome) = slot.state else {
             return Err((Refusal::Unfinished, Ticket { slot: k }));
         };
-        self.put_back(k, slot);
+        self.put_back(k);
         Ok(Collected {
             outcome,
             status: slot.status,

@@ -7,6 +7,7 @@ ghost use Rattle.table.specs.Table.{untagged_at, tagged_at, on_lun, greeted_byte
 ghost use Rattle.table.specs.View.{view, slot_at, entry_of};
 ghost use Rattle.engine.specs.Fields.{away_with, away_with_by};
 
+use crate::held::Held;
 use crate::idle::is_tagged;
 use crate::state::Engine;
 use bus::{Bus, Shown};
@@ -80,7 +81,7 @@ impl Engine {
             current: slot.saved,
             ..slot
         };
-        self.keep(k, connected);
+        self.keep(Held { k, slot: connected });
         Answer::Told(Some(k))
     }
 

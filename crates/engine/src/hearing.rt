@@ -1,7 +1,6 @@
 // Messages of the target while a slot holds the line.
-ghost use Rattle.std.specs.Prelude.{◌≡◌, ℕ, ◌≤◌, List, [], ◌∷◌, ◌++◌, length, Some, None, ◌≢◌};
+ghost use Rattle.std.specs.Prelude.{◌≡◌, ℕ, ◌≤◌, List, [], ◌∷◌, ◌++◌, length, Some, None, IsNone};
 ghost use Rattle.scsi.specs.Messages.{message_of};
-ghost use Rattle.scsi.specs.Borrowed.{meant};
 ghost use Rattle.table.specs.Script.{Plays};
 ghost use Rattle.table.specs.Table.{heard_of, rejecting, by_heard, message_by};
 ghost use Rattle.table.specs.View.{view, slot_at, entry_of};
@@ -10,7 +9,7 @@ use crate::held::Held;
 use crate::state::Engine;
 use arrayvec::ArrayVec;
 use bus::Bus;
-use scsi::{Message, Word, read};
+use scsi::{Word, read};
 use slots::{Answer, Heard, Outcome, Slot, State};
 
 impl Engine {
@@ -32,32 +31,38 @@ impl Engine {
         bus: &mut B,
         held: &Held,
         message: ArrayVec<u8, 258>,
-        heard: Heard,
+        heard: Option<Heard>,
     ) -> Answer
         requires as_kept { slot_at self.old.state.slots held.now.k ≡ held.now.slot }
-        requires room { heard ≡ Heard.Part → length message.items ≤ 257 }
+        requires room { IsNone heard → length message.items ≤ 257 }
         ensures { (m : List ℕ) → Plays (λ b. (B.Bus.means b).shown) B.Bus.did (by_heard (view self.old.state) held.now.k (entry_of held.now.slot) message.items heard held.now.slot.status) bus.old m result (view self.new.state) bus.new m }
     {
         let slot = held.slot;
         match (heard, slot.status) {
-            (Heard::Part, _) => self.hear_more(held, message),
-            (Heard::Save, None) => {
+            (None, _) => self.hear_more(held, message),
+            (Some(Heard::Save), None) => {
                 let saved = Slot {
                     saved: slot.current,
                     ..slot
                 };
-                self.keep(held.k, saved);
+                self.keep(Held {
+                    k: held.k,
+                    slot: saved,
+                });
             }
-            (Heard::Restore, None) => {
+            (Some(Heard::Restore), None) => {
                 let restored = Slot {
                     current: slot.saved,
                     ..slot
                 };
-                self.keep(held.k, restored);
+                self.keep(Held {
+                    k: held.k,
+                    slot: restored,
+                });
             }
-            (Heard::Disconnect, None) => self.leave(held, State::Away),
-            (Heard::Reject, None) => self.hold(held),
-            (Heard::Complete, Some(_)) => {
+            (Some(Heard::Disconnect), None) => self.leave(held, State::Away),
+            (Some(Heard::Reject), None) => self.hold(held),
+            (Some(Heard::Complete), Some(_)) => {
                 self.leave(held, State::Finished(Outcome::Done));
                 return Answer::Finished(held.k);
             }
@@ -77,28 +82,11 @@ impl Engine {
     }
 }
 
-// What a message comes to.
-fn comes_to(bytes: &[u8]) -> Heard
+// What a message comes to, or nothing while it goes on.
+fn comes_to(bytes: &[u8]) -> Option<Heard>
     ensures heard { result ≡ heard_of (message_of bytes.now) }
-    ensures short { result ≡ Heard.Part → length bytes.now ≤ 257 }
+    ensures short { IsNone result → length bytes.now ≤ 257 }
 {
-    match read(bytes) {
-        None => Heard::Part,
-        Some((message, _)) => kind_of(message),
-    }
-}
-
-// The kind of a whole message. No `From`: both types are of crates below.
-fn kind_of(message: Message<'_>) -> Heard
-    ensures heard { result ≡ heard_of (Some (meant message.entry)) }
-    ensures whole { result ≢ Heard.Part }
-{
-    match message {
-        Message::CommandComplete => Heard::Complete,
-        Message::SaveDataPointer => Heard::Save,
-        Message::RestorePointers => Heard::Restore,
-        Message::Disconnect => Heard::Disconnect,
-        Message::MessageReject => Heard::Reject,
-        _ => Heard::Other,
-    }
+    let (message, _) = read(bytes)?;
+    Some(Heard::from(message))
 }

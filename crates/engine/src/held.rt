@@ -1,11 +1,12 @@
 // The rows of the step table while a slot holds the line.
-ghost use Rattle.std.specs.Prelude.{◌≡◌, ◌≢◌, ◌+◌, ◌<◌, ℕ, List, true, if◌then◌else◌, Some, None};
+ghost use Rattle.std.specs.Prelude.{◌≡◌, ◌≢◌, ◌+◌, ◌<◌, ℕ, List, true, if◌then◌else◌, Some, None, IfOk};
 ghost use Rattle.slots.specs.declared.slot.State.TheVariants.{Connected};
 ghost use Rattle.table.specs.Engine.{numbered, tagged};
 ghost use Rattle.scsi.specs.Words.{word_byte};
 ghost use Rattle.table.specs.Script.{Plays};
 ghost use Rattle.table.specs.Table.{data_in_by, data_out_by, command_by, status_by, abort_by, held_by, finish_by, advance_by, holding, fault as fault_of};
 ghost use Rattle.table.specs.View.{view, slot_at, entry_of};
+ghost use Rattle.engine.specs.Fields.{place_for};
 
 use crate::memory::{fetch, store};
 use crate::state::Engine;
@@ -25,11 +26,19 @@ pub(crate) struct Held {
 }
 
 impl Held {
-    // The place of the memory that its current pointer is at.
-    fn place(&self) -> usize
-        ensures { result ≡ self.now.slot.command.region.base + self.now.slot.current }
+    // The place of the memory that a byte going this way is at, or how the command ends if none may.
+    fn place(&self, way: Way) -> Result<usize, Outcome>
+        ensures place { result ≡ place_for way (entry_of self.now.slot) }
+        ensures room { IfOk result (λ _. self.now.slot.current + 1 < 4294967296) }
     {
-        self.slot.command.region.base as usize + self.slot.current as usize
+        let region = self.slot.command.region;
+        if self.slot.command.direction != way {
+            return Err(Outcome::WrongWay);
+        }
+        if self.slot.current >= region.length {
+            return Err(Outcome::Overrun);
+        }
+        Ok(region.base as usize + self.slot.current as usize)
     }
 
     // A fault while it holds the line.
@@ -115,20 +124,14 @@ impl Engine {
         requires { slot_at self.old.state.slots held.now.k ≡ held.now.slot }
         ensures { Plays (λ b. (B.Bus.means b).shown) B.Bus.did (data_in_by (view self.old.state) held.now.k (entry_of held.now.slot) byte) bus.old memory.old result (view self.new.state) bus.new memory.new }
     {
-        let Slot {
-            command,
-            current,
-            ..
-        } = held.slot;
-        if held.slot.command.direction != Way::In {
-            return self.abort(bus, held, Shown::DataIn(byte), Outcome::WrongWay);
+        match held.place(Way::In) {
+            Ok(place) => {
+                let _ = bus.take();
+                store(memory, place, byte);
+                self.advance(held)
+            }
+            Err(outcome) => self.abort(bus, held, Shown::DataIn(byte), outcome),
         }
-        if held.slot.current >= held.slot.command.region.length {
-            return self.abort(bus, held, Shown::DataIn(byte), Outcome::Overrun);
-        }
-        let _ = bus.take();
-        store(memory, held.place(), byte);
-        self.advance(held)
     }
 
     // DATA OUT: one byte from the current pointer.
@@ -136,19 +139,13 @@ impl Engine {
         requires { slot_at self.old.state.slots held.now.k ≡ held.now.slot }
         ensures { Plays (λ b. (B.Bus.means b).shown) B.Bus.did (data_out_by (view self.old.state) held.now.k (entry_of held.now.slot)) bus.old memory.now result (view self.new.state) bus.new memory.now }
     {
-        let Slot {
-            command,
-            current,
-            ..
-        } = held.slot;
-        if held.slot.command.direction != Way::Out {
-            return self.abort(bus, held, Shown::DataOut, Outcome::WrongWay);
+        match held.place(Way::Out) {
+            Ok(place) => {
+                let _ = bus.give(fetch(memory, place));
+                self.advance(held)
+            }
+            Err(outcome) => self.abort(bus, held, Shown::DataOut, outcome),
         }
-        if held.slot.current >= held.slot.command.region.length {
-            return self.abort(bus, held, Shown::DataOut, Outcome::Overrun);
-        }
-        let _ = bus.give(fetch(memory, held.place()));
-        self.advance(held)
     }
 
     // A byte was moved: the current pointer grows by one.
@@ -162,7 +159,10 @@ impl Engine {
             current: held.slot.current + 1,
             ..held.slot
         };
-        self.keep(held.k, moved);
+        self.keep(Held {
+            k: held.k,
+            slot: moved,
+        });
         Answer::Moved(held.k)
     }
 
@@ -179,7 +179,10 @@ impl Engine {
             sent: true,
             ..held.slot
         };
-        self.keep(held.k, sent);
+        self.keep(Held {
+            k: held.k,
+            slot: sent,
+        });
         Answer::Told(Some(held.k))
     }
 
@@ -193,7 +196,10 @@ impl Engine {
             status: Some(byte),
             ..held.slot
         };
-        self.keep(held.k, told);
+        self.keep(Held {
+            k: held.k,
+            slot: told,
+        });
         Answer::Told(Some(held.k))
     }
 }

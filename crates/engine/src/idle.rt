@@ -11,6 +11,7 @@ use crate::state::Engine;
 use bus::{Bus, Selection, Shown};
 use scsi::Greeting;
 use slots::{Answer, Command, Line, Manner, Outcome, Slot, SlotNumber, State};
+use std::iter::successors;
 
 impl Engine {
     // The row by what is shown.
@@ -79,17 +80,11 @@ impl Engine {
     fn first_eligible(&self) -> Option<SlotNumber>
         ensures { result ≡ first_of (view self.now.state).waiting (eligible (view self.now.state)) }
     {
-        let mut next = self.state.waiting;
-        // By next numbers, which no iterator follows.
-        for _ in 0..16u8 {
-            let k = SlotNumber::new(next)?;
-            let slot = self.slot(k);
-            if self.is_eligible(slot) {
-                return Some(k);
-            }
-            next = slot.next;
-        }
-        None
+        successors(SlotNumber::new(self.state.waiting), |k| {
+            SlotNumber::new(self.slot(*k).next)
+        })
+        .take(16)
+        .find(|k| self.is_eligible(self.slot(*k)))
     }
 
     // Whether the unit of the slot has no connected or away command, or it and all of those are tagged.

@@ -9,6 +9,7 @@ pub struct MemorySize {
     pub(crate) bytes: u32,
 }
 
+// By name, since it is a call of its own; a `TryFrom` would say no more.
 /// Whether an engine may have a memory of this many bytes.
 pub fn memory_size(bytes: usize) -> Result<MemorySize, Refusal>
     ensures { sized result ≡ size_answer bytes }

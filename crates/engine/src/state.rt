@@ -3,6 +3,7 @@ ghost use Rattle.engine.specs.Whole.{Ended, FreeChain, WaitingChain, LineKept};
 
 use slots::Slots;
 
+// No model: the value would hold the slots as a function, which no model's may.
 /// The engine: sixteen slots for commands, and the line as it knows it.
 #[derive(Drop)]
 pub struct Engine {

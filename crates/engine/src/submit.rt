@@ -65,7 +65,7 @@ fn well_formed(request: Request<'_>) -> Result<Command, Refusal>
     let bytes = Cdb::new(request.bytes).ok_or(Refusal::CommandLength)?;
     let manner = Manner::try_from(request.manner)?;
     let direction = Way::try_from(request.direction)?;
-    if request.direction == 0 && request.region.length != 0 {
+    if direction == Way::Still && request.region.length != 0 {
         return Err(Refusal::Form);
     }
     Ok(Command {

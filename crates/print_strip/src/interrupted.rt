@@ -1,39 +1,29 @@
 // Carries untagged commands, one at a time, over a bus that lets go of the line and takes it up again, by bus calls alone.
+use crate::Job;
 use anyhow::{Context, anyhow, bail};
 use bus::{Bus, Selection, Shown};
 use scsi::{Greeting, Message, read};
 use shelf::Unit;
 use std::ops::ControlFlow;
-use strip::Order;
 
 const TURNS: u32 = 1_000_000;
 
-// A command underway: its bytes, its data either way, the current and the saved data pointer, and its status once it came.
+// A job underway: the current and the saved data pointer, and its status once it came.
 #[derive(Drop)]
 struct Underway<'a> {
-    command: [u8; 6],
-    out: &'a [u8],
-    into: &'a mut [u8],
+    job: Job<'a>,
     current: usize,
     saved: usize,
     status: Option<u8>,
 }
 
-// Carries one order to a unit, and says what came of it and each time the target lets go or comes back.
-pub(crate) fn ask<B: Bus>(
-    rt: &HostRuntime,
-    bus: &mut B,
-    unit: Unit,
-    order: Order,
-    out: &[u8],
-    into: &mut [u8],
-) -> anyhow::Result<()> {
-    println!(rt; "target {} LUN {} {order}", unit.target, unit.lun)?;
-    select(rt, bus, unit)?;
+// Carries out a job, and says what came of it and each time the target lets go or comes back.
+pub(crate) fn ask<B: Bus>(rt: &HostRuntime, bus: &mut B, job: Job) -> anyhow::Result<()> {
+    let Unit { target, lun } = job.unit;
+    println!(rt; "target {target} LUN {lun} {}", job.order)?;
+    select(rt, bus, job.unit)?;
     let mut underway = Underway {
-        command: order.bytes(),
-        out,
-        into,
+        job,
         current: 0,
         saved: 0,
         status: None,
@@ -80,9 +70,10 @@ impl Underway<'_> {
                 println!(rt; "  reselected by target {from}, at place {saved}")?;
                 bus.accept()?;
             }
-            Shown::Command => bus.command(&self.command)?,
+            Shown::Command => bus.command(&self.job.order.bytes())?,
             Shown::DataOut => {
                 let byte = self
+                    .job
                     .out
                     .get(self.current)
                     .copied()
@@ -91,9 +82,11 @@ impl Underway<'_> {
                 self.move_on()?;
             }
             Shown::DataIn(_) => {
+                let current = self.current;
                 let space = self
+                    .job
                     .into
-                    .get_mut(self.current)
+                    .get_mut(current)
                     .context("more data came than there is space for")?;
                 *space = bus.take()?;
                 self.move_on()?;

@@ -44,17 +44,19 @@ fn units(rt: &HostRuntime) -> anyhow::Result<Units> {
     })
 }
 
-// A bus with the units behind it, and how a whole order is carried over it.
+// An order to a unit, with the data that it may ask for and the space for what may come.
+#[derive(Drop)]
+struct Job<'a> {
+    unit: Unit,
+    order: Order,
+    out: &'a [u8],
+    into: &'a mut [u8],
+}
+
+// A bus with the units behind it, and how a whole job is carried out over it.
 trait Cable {
-    // Carries one order, and says what came of it.
-    fn ask(
-        &mut self,
-        rt: &HostRuntime,
-        unit: Unit,
-        order: Order,
-        out: &[u8],
-        into: &mut [u8],
-    ) -> anyhow::Result<()>;
+    // Carries out a job, and says what came of it.
+    fn ask(&mut self, rt: &HostRuntime, job: Job) -> anyhow::Result<()>;
 
     fn units(&self) -> &Units;
 }
@@ -70,19 +72,12 @@ fn print_over<C: Cable, const SIZE: usize>(
     let mut drawn = [0; SIZE];
     draw(&mut drawn);
     println!(rt; "{name}: {SIZE} bytes, Adler-32 {:08x}", adler32(&drawn))?;
-    for (block, bytes) in (0..).zip(drawn.chunks_exact(BLOCK)) {
-        cable.ask(rt, DISK, Order::Write(block), bytes, &mut [])?;
-    }
+    write(rt, cable, &drawn)?;
     let mut copy = [0; SIZE];
-    for (block, bytes) in (0..).zip(copy.chunks_exact_mut(BLOCK)) {
-        cable.ask(rt, DISK, Order::Read(block), &[], bytes)?;
-    }
+    read(rt, cable, &mut copy)?;
     ensure!(copy == drawn, "the strip came back changed");
     println!(rt; "compared: the strip came back as it was written")?;
-    for bytes in copy.chunks(PRINT) {
-        let count = u16::try_from(bytes.len())?;
-        cable.ask(rt, RECORDER, Order::Print(count), bytes, &mut [])?;
-    }
+    print(rt, cable, &copy)?;
     let film = cable.units().second.film();
     println!(rt;
         "film: {} bytes, Adler-32 {:08x}",
@@ -92,15 +87,57 @@ fn print_over<C: Cable, const SIZE: usize>(
     Ok(())
 }
 
+// Writes bytes to the disk, from its first block on.
+fn write<C: Cable>(rt: &HostRuntime, cable: &mut C, bytes: &[u8]) -> anyhow::Result<()> {
+    for (block, out) in (0..).zip(bytes.chunks_exact(BLOCK)) {
+        let job = Job {
+            unit: DISK,
+            order: Order::Write(block),
+            out,
+            into: &mut [],
+        };
+        cable.ask(rt, job)?;
+    }
+    Ok(())
+}
+
+// Reads from the disk, from its first block on.
+fn read<C: Cable>(rt: &HostRuntime, cable: &mut C, bytes: &mut [u8]) -> anyhow::Result<()> {
+    for (block, into) in (0..).zip(bytes.chunks_exact_mut(BLOCK)) {
+        let job = Job {
+            unit: DISK,
+            order: Order::Read(block),
+            out: &[],
+            into,
+        };
+        cable.ask(rt, job)?;
+    }
+    Ok(())
+}
+
+// Prints bytes on film.
+fn print<C: Cable>(rt: &HostRuntime, cable: &mut C, bytes: &[u8]) -> anyhow::Result<()> {
+    for out in bytes.chunks(PRINT) {
+        let count = u16::try_from(out.len())?;
+        let job = Job {
+            unit: RECORDER,
+            order: Order::Print(count),
+            out,
+            into: &mut [],
+        };
+        cable.ask(rt, job)?;
+    }
+    Ok(())
+}
+
 impl Cable for StrictBus<Units> {
-    fn ask(
-        &mut self,
-        rt: &HostRuntime,
-        unit: Unit,
-        order: Order,
-        out: &[u8],
-        into: &mut [u8],
-    ) -> anyhow::Result<()> {
+    fn ask(&mut self, rt: &HostRuntime, job: Job) -> anyhow::Result<()> {
+        let Job {
+            unit,
+            order,
+            out,
+            into,
+        } = job;
         let command = order.bytes();
         let carried = match order {
             Order::Read(_) => carry_in(self, unit, &command, into)?,
@@ -126,15 +163,8 @@ impl Cable for StrictBus<Units> {
 }
 
 impl Cable for WhimBus<Units> {
-    fn ask(
-        &mut self,
-        rt: &HostRuntime,
-        unit: Unit,
-        order: Order,
-        out: &[u8],
-        into: &mut [u8],
-    ) -> anyhow::Result<()> {
-        interrupted::ask(rt, self, unit, order, out, into)
+    fn ask(&mut self, rt: &HostRuntime, job: Job) -> anyhow::Result<()> {
+        interrupted::ask(rt, self, job)
     }
 
     fn units(&self) -> &Units {

@@ -33,13 +33,13 @@ pub fn simple_queue_tag(tag: u8) -> [u8; 2]
 #[derive(Clone, Copy, PartialEq, Eq, Debug)]
 pub enum Word {
     /// The target is to end the nexus.
-    Abort,
+    Abort = 0x06,
     /// The last message is not obeyed.
-    MessageReject,
+    MessageReject = 0x07,
     /// There is nothing to say.
-    NoOperation,
+    NoOperation = 0x08,
     /// The target is to end the tagged nexus.
-    AbortTag,
+    AbortTag = 0x0d,
 }
 
 impl Word {
@@ -48,12 +48,7 @@ impl Word {
         ensures bytes { result ≡ word_byte self ∷ [] }
         ensures reads_back { ReadsBack result (word_meant self) }
     {
-        match self {
-            Word::Abort => [0x06],
-            Word::MessageReject => [0x07],
-            Word::NoOperation => [0x08],
-            Word::AbortTag => [0x0d],
-        }
+        [self as u8]
     }
 }
 

@@ -51,6 +51,7 @@ pub struct Unit {
     pub lun: u8,
 }
 
+// Unit and command apart: with the borrowed bytes in a struct each clause would have to read it as it was at entry.
 /// The units behind a bus.
 pub trait Shelf {
     /// What the shelf means, as a value of one type for all shelves.

@@ -140,6 +140,7 @@ impl Answer {
         }
     }
 
+    // A number, 0 for none, as the lists of answers have it.
     /// The slot that it is about, 0 for none.
     pub fn slot(self) -> u8
         ensures { result ≡ answer_slot self }
@@ -168,6 +169,7 @@ impl End {
         }
     }
 
+    // A number, 0 for none, as the lists of answers have it.
     /// The slot that it is about, 0 for none.
     pub fn slot(self) -> u8
         ensures { result ≡ end_slot self }

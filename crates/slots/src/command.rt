@@ -44,6 +44,7 @@ impl Region {
 }
 
 impl Manner {
+    // As `Layer::number`: `as` takes no type parameter.
     /// Its number.
     pub fn number(self) -> u8
         ensures { result ≡ manner_number self }

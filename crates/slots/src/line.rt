@@ -1,4 +1,9 @@
+ghost use Rattle.std.specs.Prelude.{◌≡◌};
+ghost use Rattle.scsi.specs.Borrowed.{meant};
+ghost use Rattle.slots.specs.Messages.{heard};
+
 use crate::number::SlotNumber;
+use scsi::Message;
 use shelf::Unit;
 
 /// The engine's own line state.
@@ -15,11 +20,9 @@ pub enum Line {
     Held(SlotNumber),
 }
 
-/// What a message byte comes to.
+/// What a whole message comes to.
 #[derive(Clone, Copy, PartialEq, Eq, Debug)]
 pub enum Heard {
-    /// The message goes on.
-    Part,
     /// COMMAND COMPLETE.
     Complete,
     /// SAVE DATA POINTER.
@@ -32,4 +35,19 @@ pub enum Heard {
     Reject,
     /// Any other message.
     Other,
+}
+
+impl From<Message<'_>> for Heard {
+    ghost from_gives = { λ m h. h ≡ heard (meant m) };
+
+    fn from(message: Message<'_>) -> Heard {
+        match message {
+            Message::CommandComplete => Heard::Complete,
+            Message::SaveDataPointer => Heard::Save,
+            Message::RestorePointers => Heard::Restore,
+            Message::Disconnect => Heard::Disconnect,
+            Message::MessageReject => Heard::Reject,
+            _ => Heard::Other,
+        }
+    }
 }

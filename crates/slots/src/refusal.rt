@@ -32,6 +32,7 @@ pub enum Refusal {
 }
 
 impl Refusal {
+    // As `Layer::number`: `as` takes no type parameter.
     /// Its number, which is its place in the order of the tests.
     pub fn number(self) -> u8
         ensures { result ≡ refusal_number self }

@@ -63,6 +63,7 @@ pub struct Slots {
 }
 
 impl Outcome {
+    // As `Layer::number`: `as` takes no type parameter.
     /// Its number.
     pub fn number(self) -> u8
         ensures { result ≡ outcome_number self }

@@ -11,9 +11,9 @@ ghost use Rattle.strict_bus.specs.Keeping;
 
 use crate::state::StrictBus;
 use arrayvec::ArrayVec;
-use bus::{Bus, Opened, Refusal, Selection, Shown, Stage, is_abort};
+use bus::{Bus, Opened, Refusal, Selection, Shown, Stage, data_shown, is_abort};
 use scsi::{Cdb, Greeting};
-use shelf::{Shelf, Way};
+use shelf::Shelf;
 
 impl<S: Shelf> StrictBus<S> {
     /// A strict bus over this shelf, with a free line and no nexus.
@@ -24,14 +24,7 @@ impl<S: Shelf> StrictBus<S> {
         StrictBus {
             shelf,
             stage: Stage::Empty,
-            opened: Opened {
-                target: 0,
-                greeting: Greeting {
-                    lun: 0,
-                    leave: false,
-                    tag: None,
-                },
-            },
+            opened: Opened::NONE,
             place: 0,
             out: ArrayVec::new(),
         }
@@ -53,11 +46,7 @@ impl<S: Shelf> StrictBus<S> {
         let bytes = command.as_slice();
         let (way, count) = self.shelf.way(unit, bytes);
         if self.place < count {
-            return match way {
-                Way::Still => Shown::Pause,
-                Way::In => Shown::DataIn(self.shelf.byte(unit, bytes, self.place)),
-                Way::Out => Shown::DataOut,
-            };
+            return data_shown(&self.shelf, unit, bytes, way, self.place);
         }
         if self.place == count {
             Shown::Status(self.shelf.status(unit, bytes))
@@ -88,9 +77,9 @@ impl<S: Shelf> Bus for StrictBus<S> {
     }
 
     fn select(&mut self, target: u8, greeting: &[u8]) -> Result<Selection, Refusal> {
-        let Stage::Empty = self.stage else {
+        if self.stage != Stage::Empty {
             return Err(Refusal::Misfit);
-        };
+        }
         let greeting = Greeting::read(greeting).ok_or(Refusal::Misfit)?;
         if !self.shelf.present(target) {
             return Ok(Selection::Absent);
@@ -107,9 +96,9 @@ impl<S: Shelf> Bus for StrictBus<S> {
     }
 
     fn command(&mut self, bytes: &[u8]) -> Result<(), Refusal> {
-        let Stage::Fresh = self.stage else {
+        if self.stage != Stage::Fresh {
             return Err(Refusal::Misfit);
-        };
+        }
         let command = Cdb::new(bytes).ok_or(Refusal::Misfit)?;
         self.stage = Stage::Commanded(command);
         Ok(())
@@ -152,7 +141,7 @@ impl<S: Shelf> Bus for StrictBus<S> {
     }
 
     fn speak(&mut self, message: &[u8]) -> Result<(), Refusal> {
-        if let Stage::Empty = self.stage {
+        if self.stage == Stage::Empty {
             return Err(Refusal::Misfit);
         }
         if is_abort(message) {

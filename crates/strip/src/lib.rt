@@ -4,5 +4,5 @@
 mod image;
 mod orders;
 
-pub use image::{adler32, draw};
+pub use image::{Adler, adler32, draw};
 pub use orders::Order;

@@ -13,7 +13,7 @@ use Rattle.table.specs.Script.{Script}
 use Rattle.table.specs.Table.{byte_told, row, violation, cleared, eligible, selecting, on_free, on_reselect, idle_row, message_row, connecting, away_at, untagged_at, tagged_at, on_lun, greeted_byte, named_byte, tag_byte, data_in_by, data_out_by, command_by, status_by, heard_of, by_heard, message_by, held_by, on_held}
 use Rattle.table.specs.Sound.{Sound}
 use Rattle.slots.specs.declared.line.Heard.{Heard}
-use Rattle.slots.specs.declared.line.Heard.TheVariants.{Part, Complete, Save, Restore, Disconnect, Reject, Other}
+use Rattle.slots.specs.declared.line.Heard.TheVariants.{Complete, Save, Restore, Disconnect, Reject, Other}
 use Rattle.bus.specs.Kinds.{kind_of, target_shown}
 use Rattle.table.specs.Regions.{SameRegions, InRegion, Within, KeepsToRegions}
 use Rattle.table.proofs.Basics.{once_without, put_cases, put_here, seek_some, first_of_some, stands_without}
@@ -200,20 +200,20 @@ module _ (e : Engine) (o : Sound e) where
     in_status v None = λ y. stays _ refl refl
     in_status v (Some st) = λ y. sound_cleared
 
-    in_heard : (l : List ℕ) (h : Heard) (p : Option ℕ) → In (by_heard e k x l h p)
-    in_heard l Part p = reline l
-    in_heard l Complete None = λ y. reline []
-    in_heard l Save None = stays _ refl refl
-    in_heard l Restore None = stays _ refl refl
-    in_heard l Disconnect None = goes Away refl refl
-    in_heard l Reject None = reline []
-    in_heard l Other None = λ y. reline []
-    in_heard l Complete (Some st) = goes (Finished Done) refl refl
-    in_heard l Save (Some st) = λ y. reline []
-    in_heard l Restore (Some st) = λ y. reline []
-    in_heard l Disconnect (Some st) = λ y. reline []
-    in_heard l Reject (Some st) = λ y. reline []
-    in_heard l Other (Some st) = λ y. reline []
+    in_heard : (l : List ℕ) (h : Option Heard) (p : Option ℕ) → In (by_heard e k x l h p)
+    in_heard l None p = reline l
+    in_heard l (Some Complete) None = λ y. reline []
+    in_heard l (Some Save) None = stays _ refl refl
+    in_heard l (Some Restore) None = stays _ refl refl
+    in_heard l (Some Disconnect) None = goes Away refl refl
+    in_heard l (Some Reject) None = reline []
+    in_heard l (Some Other) None = λ y. reline []
+    in_heard l (Some Complete) (Some st) = goes (Finished Done) refl refl
+    in_heard l (Some Save) (Some st) = λ y. reline []
+    in_heard l (Some Restore) (Some st) = λ y. reline []
+    in_heard l (Some Disconnect) (Some st) = λ y. reline []
+    in_heard l (Some Reject) (Some st) = λ y. reline []
+    in_heard l (Some Other) (Some st) = λ y. reline []
 
     in_byte : (l : List ℕ) → In (message_by e k x l)
     in_byte l = λ y. in_heard l (heard_of (message_of l)) x.status

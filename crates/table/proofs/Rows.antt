@@ -352,25 +352,25 @@ module _ (w : World) (s : Serving) (c : Core w s) (k : ℕ) (bs : List ℕ) (q :
   quiet_keeps : {o : Option Message} → Long o → (bs' : List ℕ) → x.status ≡ None → (b : BusState) → (b.cable ≡ reads o bs' n cable) × Shows b × (b.order ≡ true)
       → (a : Answer) (w' : World) → Runs (by_heard e k x bs' (heard_of o) x.status) b w.memory a w' → After w a w' s
   quiet_keeps goes_on bs' h b g a w' r = ending r (relined bs' b g)
-  quiet_keeps (some_extended l) bs' h b g a w' r = rejecting_keeps b g a w' (subst (λ (o : Option ℕ). Runs (by_heard e k x bs' Other o) b w.memory a w') h r)
-  quiet_keeps (some_sdtr m y) bs' h b g a w' r = rejecting_keeps b g a w' (subst (λ (o : Option ℕ). Runs (by_heard e k x bs' Other o) b w.memory a w') h r)
+  quiet_keeps (some_extended l) bs' h b g a w' r = rejecting_keeps b g a w' (subst (λ (o : Option ℕ). Runs (by_heard e k x bs' (Some Other) o) b w.memory a w') h r)
+  quiet_keeps (some_sdtr m y) bs' h b g a w' r = rejecting_keeps b g a w' (subst (λ (o : Option ℕ). Runs (by_heard e k x bs' (Some Other) o) b w.memory a w') h r)
 
   -- messages before status
   uttered : (v : ℕ) → Utters has.nexus v → has.nexus.status ≡ None → (b : BusState) → (b.cable ≡ reads (message_of (v ∷ [])) (v ∷ []) n cable) × Shows b × (b.order ≡ true)
       → (a : Answer) (w' : World) → Runs (by_heard e k x (v ∷ []) (heard_of (message_of (v ∷ []))) x.status) b w.memory a w' → After w a w' s
   uttered v Utters.rejects h b g a w' r =
-      ending (subst (λ (o : Option ℕ). Runs (by_heard e k x (7 ∷ []) Reject o) b w.memory a w') (sym has.underway.status ∙ h) r) (relined [] b g)
+      ending (subst (λ (o : Option ℕ). Runs (by_heard e k x (7 ∷ []) (Some Reject) o) b w.memory a w') (sym has.underway.status ∙ h) r) (relined [] b g)
   uttered v Utters.extends h b g a w' r = ending r (relined (1 ∷ []) b g)
   uttered v (Utters.saving d t) h b g a w' r =
-      ending (subst (λ (o : Option ℕ). Runs (by_heard e k x (2 ∷ []) Save o) b w.memory a w') (sym has.underway.status ∙ h) r)
+      ending (subst (λ (o : Option ℕ). Runs (by_heard e k x (2 ∷ []) (Some Save) o) b w.memory a w') (sym has.underway.status ∙ h) r)
       (staying (Told (Some k)) (λ j. refl) (with_pointers x.current x.current x) saves (with_begun [] (change n saves cable)) b w.memory on refl g refl refl on_line refl refl (λ j ne u a la. refl)
       (saving cable.shelf cable.nexuses _ w.memory x (s.kept k).bytes has.nexus has.underway on h))
   uttered v (Utters.restoring d t) h b g a w' r =
-      ending (subst (λ (o : Option ℕ). Runs (by_heard e k x (3 ∷ []) Restore o) b w.memory a w') (sym has.underway.status ∙ h) r)
+      ending (subst (λ (o : Option ℕ). Runs (by_heard e k x (3 ∷ []) (Some Restore) o) b w.memory a w') (sym has.underway.status ∙ h) r)
       (staying (Told (Some k)) (λ j. refl) (with_pointers x.saved x.saved x) restored (with_begun [] (change n restored cable)) b w.memory on refl g refl refl on_line refl refl (λ j ne u a la. refl)
       (restoring cable.shelf cable.nexuses _ w.memory x (s.kept k).bytes has.nexus has.underway on h))
   uttered v (Utters.leaving d t l) h b g a w' r =
-      ending (subst (λ (o : Option ℕ). Runs (by_heard e k x (4 ∷ []) Disconnect o) b w.memory a w') (sym has.underway.status ∙ h) r)
+      ending (subst (λ (o : Option ℕ). Runs (by_heard e k x (4 ∷ []) (Some Disconnect) o) b w.memory a w') (sym has.underway.status ∙ h) r)
       (going (Told (Some k)) (λ j. refl) (with_state Away x) idle restored (leaves n cable) b w.memory refl refl (λ z. absurd (away_on z)) (λ j bs' z. absurd (idle_unheld j bs' z))
       g.2 g.1 g.0 refl refl refl refl refl (λ j ne u a la. refl)
       (leaving cable.shelf cable.nexuses _ w.memory x (s.kept k).bytes has.nexus has.underway h))
@@ -510,9 +510,9 @@ module _ (w : World) (s : Serving) (c : Core w s) (k : ℕ) (bs : List ℕ) (q :
         })
 
     pub complete_keeps : (b : BusState) → (b.cable ≡ reads (message_of (0 ∷ [])) (0 ∷ []) n cable) × Shows b × (b.order ≡ true)
-        → (a : Answer) (w' : World) → Runs (by_heard e k x (0 ∷ []) Complete x.status) b w.memory a w' → After w a w' s
+        → (a : Answer) (w' : World) → Runs (by_heard e k x (0 ∷ []) (Some Complete) x.status) b w.memory a w' → After w a w' s
     complete_keeps b g a w' r =
-        ending (subst (λ (o : Option ℕ). Runs (by_heard e k x (0 ∷ []) Complete o) b w.memory a w') (sym has.underway.status ∙ h) r)
+        ending (subst (λ (o : Option ℕ). Runs (by_heard e k x (0 ∷ []) (Some Complete) o) b w.memory a w') (sym has.underway.status ∙ h) r)
         (record {
           sized = (refl, refl);
           served = serves k s;

@@ -2,7 +2,7 @@
 use Rattle.std.specs.Prelude.{ℕ, suc, ◌+◌, ◌-◌, Bool, true, false, cond, not, ◌&&◌, ◌||◌, List, [], ◌∷◌, ◌++◌, Some, None, Option, ◌==◌, nat_le, nat_lt}
 use Rattle.std.specs.Option.{option_map}
 use Rattle.scsi.specs.Rows.{◌then◌, ◌else◌}
-use Rattle.scsi.specs.Messages.{Message, complete, save, restore, disconnect, abort, reject, no_operation, abort_tag, extended, sdtr, simple_tag, identify, other, message_of}
+use Rattle.scsi.specs.Messages.{Message, message_of}
 use Rattle.scsi.specs.Greetings.{greeting_bytes}
 use Rattle.bus.specs.declared.Shown.{Shown}
 use Rattle.bus.specs.declared.Shown.TheVariants.{DataOut, DataIn, Command as CommandOut, Status, Reserved4, Reserved5, MessageOut, MessageIn, Free as FreeLine, Reselect, Pause}
@@ -12,12 +12,13 @@ use Rattle.slots.specs.declared.slot.Outcome.{Outcome}
 use Rattle.slots.specs.declared.slot.Outcome.TheVariants.{Done, Absent, Overrun, WrongWay, Dropped}
 use Rattle.slots.specs.declared.slot.State.TheVariants.{Connected, Away, Finished}
 use Rattle.slots.specs.declared.line.Heard.{Heard}
-use Rattle.slots.specs.declared.line.Heard.TheVariants.{Part, Complete, Save, Restore, Disconnect, Reject, Other}
+use Rattle.slots.specs.declared.line.Heard.TheVariants.{Complete, Save, Restore, Disconnect, Reject, Other}
 use Rattle.slots.specs.declared.answer.Layer.{Layer}
 use Rattle.slots.specs.declared.answer.Layer.TheVariants.{Bus, Message as MessageLayer, Nexus, Pointer}
 use Rattle.slots.specs.declared.answer.Answer.{Answer}
 use Rattle.slots.specs.declared.answer.Holder.{Holder}
 use Rattle.slots.specs.declared.answer.Answer.TheVariants.{Idle, Waited, Lost, Selected, Accepted, Moved, Finished as FinishedAnswer, Told, Fault}
+use Rattle.slots.specs.Messages.{heard}
 use Rattle.slots.specs.Numbers.{byte_number}
 use Rattle.table.specs.Engine.{Command, Entry, Line, idle, greeted, named, tag_due, held, Engine, is_open, is_away, tagged, may_leave, tag_for, same_unit, is_in, is_out, numbered, every, seek, first_of, set_slot, unlink_slot, set_line, with_state, with_pointers, with_sent, with_status, reset_where}
 use Rattle.table.specs.Script.{Script, return, look, ask, read, write}
@@ -200,41 +201,28 @@ status_by e k x v None = ask take (λ _. return (Told (Some k)) (set_slot k (wit
 status_by e k x v (Some st) = violation e (Status v)
 
 -- what a message comes to; none is one that goes on
-abbrev pub heard_of : Option Message → Heard
-heard_of None = Part
-heard_of (Some complete) = Complete
-heard_of (Some save) = Save
-heard_of (Some restore) = Restore
-heard_of (Some disconnect) = Disconnect
-heard_of (Some reject) = Reject
-heard_of (Some abort) = Other
-heard_of (Some no_operation) = Other
-heard_of (Some abort_tag) = Other
-heard_of (Some (extended bs)) = Other
-heard_of (Some (sdtr m x)) = Other
-heard_of (Some (simple_tag t)) = Other
-heard_of (Some (identify l u)) = Other
-heard_of (Some (other b bs)) = Other
+abbrev pub heard_of : Option Message → Option Heard
+heard_of m = option_map heard m
 
 -- a message that is not obeyed: MESSAGE REJECT
 abbrev pub rejecting : Engine → ℕ → Script
 rejecting e k = ask (speak (0x07 ∷ [])) (λ _. return (Told (Some k)) (set_line (held k []) e))
 
 -- a message acts at its last byte, by whether the status came; before it, its bytes are kept
-abbrev pub by_heard : Engine → ℕ → Entry → List ℕ → Heard → Option ℕ → Script
-by_heard e k x bs Part o = return (Told (Some k)) (set_line (held k bs) e)
-by_heard e k x bs Save None = return (Told (Some k)) (set_slot k (with_pointers x.current x.current x) (held k []) e)
-by_heard e k x bs Restore None = return (Told (Some k)) (set_slot k (with_pointers x.saved x.saved x) (held k []) e)
-by_heard e k x bs Disconnect None = return (Told (Some k)) (set_slot k (with_state Away x) idle e)
-by_heard e k x bs Reject None = return (Told (Some k)) (set_line (held k []) e)
-by_heard e k x bs Complete None = rejecting e k
-by_heard e k x bs Other None = rejecting e k
-by_heard e k x bs Complete (Some st) = return (FinishedAnswer k) (finish_by e k x Done)
-by_heard e k x bs Save (Some st) = rejecting e k
-by_heard e k x bs Restore (Some st) = rejecting e k
-by_heard e k x bs Disconnect (Some st) = rejecting e k
-by_heard e k x bs Reject (Some st) = rejecting e k
-by_heard e k x bs Other (Some st) = rejecting e k
+abbrev pub by_heard : Engine → ℕ → Entry → List ℕ → Option Heard → Option ℕ → Script
+by_heard e k x bs None o = return (Told (Some k)) (set_line (held k bs) e)
+by_heard e k x bs (Some Save) None = return (Told (Some k)) (set_slot k (with_pointers x.current x.current x) (held k []) e)
+by_heard e k x bs (Some Restore) None = return (Told (Some k)) (set_slot k (with_pointers x.saved x.saved x) (held k []) e)
+by_heard e k x bs (Some Disconnect) None = return (Told (Some k)) (set_slot k (with_state Away x) idle e)
+by_heard e k x bs (Some Reject) None = return (Told (Some k)) (set_line (held k []) e)
+by_heard e k x bs (Some Complete) None = rejecting e k
+by_heard e k x bs (Some Other) None = rejecting e k
+by_heard e k x bs (Some Complete) (Some st) = return (FinishedAnswer k) (finish_by e k x Done)
+by_heard e k x bs (Some Save) (Some st) = rejecting e k
+by_heard e k x bs (Some Restore) (Some st) = rejecting e k
+by_heard e k x bs (Some Disconnect) (Some st) = rejecting e k
+by_heard e k x bs (Some Reject) (Some st) = rejecting e k
+by_heard e k x bs (Some Other) (Some st) = rejecting e k
 
 -- the message's bytes with the one shown, which is taken
 abbrev pub message_by : Engine → ℕ → Entry → List ℕ → Script

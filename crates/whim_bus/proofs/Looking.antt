@@ -1,7 +1,7 @@
 -- What is looked for among the rows, in the library's words and in those of the text. Assumes nothing.
 use Rattle.std.proofs.Common.{◌≡◌, ℕ, ◌+◌, Bool, true, false, cond, not, ◌&&◌, ◌||◌, ltb, leb, List, [], ◌∷◌, map, length, get_or, Some, None, Option, refl, sym, ap, ap₂, ◌∙◌, arith}
 use Rattle.std.specs.List.{list_any, position_or_len, count_by}
-use Rattle.std.specs.Option.{is_some}
+use Rattle.std.specs.Option.{is_some, MatchOption}
 use Rattle.std.proofs.lemmas.Bool.{lt-ltb, le-ltb, ltb-true, ltb-false, leb-true, leb-false}
 use Rattle.std.proofs.lemmas.List.{length-map, get_or_past}
 use Rattle.std.proofs.lemmas.List.Sums.{passes_at_first}
@@ -36,6 +36,15 @@ pub position_row : (p : Row → Bool) (xs : List KeptRow)
     → cond (ltb (position_or_len (λ x. p (row_of x)) xs) (length xs)) (Some (position_or_len (λ x. p (row_of x)) xs)) None ≡ passing p (map row_of xs)
 position_row p xs =
     ap₂ (λ (n i : ℕ). cond (ltb i n) (Some i) None) (sym (length-map xs row_of)) (first_row p xs)
+
+-- the place that is found is the number of a row
+pub numbered : (p : Row → Bool) (rs : List Row) (o r : Option ℕ) → length rs ≡ 16 → o ≡ passing p rs → MatchOption o (r ≡ None) (λ i. r ≡ cond (ltb i 16) (Some i) None) → r ≡ passing p rs
+numbered p rs None r n h m = m ∙ h
+numbered p rs (Some i) r n h m = m ∙ go (ltb (position_or_len p rs) (length rs)) refl h ∙ h
+  where
+    go : (t : Bool) → ltb (position_or_len p rs) (length rs) ≡ t → Some i ≡ cond t (Some (position_or_len p rs)) None → cond (ltb i 16) (Some i) None ≡ Some i
+    go true e h = let q : i ≡ position_or_len p rs = cc in ap (λ (b : Bool). cond b (Some i) None) (lt-ltb _ _ (omega (arith, ltb-true _ _ e, q, n)))
+    go false e h = absurd cc
 
 -- one passes exactly where the first passes
 there : (p : Row → Bool) → p blank ≡ false → (rs : List Row) → ltb (position_or_len p rs) (length rs) ≡ p (get_or rs (position_or_len p rs) blank)

@@ -1,6 +1,7 @@
 -- A data byte is shown only of a row whose place has room. Assumes nothing.
-use Rattle.std.proofs.Common.{◌≡◌, ℕ, ◌%◌, ◌<◌, ◌≤◌, Bool, true, false, cond, not, ◌&&◌, eqb, ltb, List, length, get_or, refl, sym, ap, ◌∙◌, subst, arith}
+use Rattle.std.proofs.Common.{◌≡◌, ℕ, ◌%◌, ◌<◌, ◌≤◌, Bool, true, false, cond, not, ◌&&◌, eqb, ltb, List, refl, sym, ap, ◌∙◌, subst, arith}
 use Rattle.std.proofs.lemmas.Bool.{ltb-true, false≢true}
+use Rattle.std.proofs.lemmas.Option.{slice_get_within, get_or_from_slice_get}
 use Rattle.shelf.specs.Model.{Model, way_of, count_of, byte_of, status_of}
 use Rattle.bus.specs.declared.Shown.{Shown}
 use Rattle.bus.specs.declared.Shown.TheVariants.{Status, MessageIn, Pause}
@@ -8,13 +9,12 @@ use Rattle.bus.specs.Kinds.{kind_of}
 use Rattle.bus.specs.Showing.{data_shown}
 use Rattle.whim_bus.specs.declared.rows.Row.{Row as KeptRow}
 use Rattle.whim_bus.specs.declared.state.Line.{Line}
-use Rattle.whim_bus.specs.declared.state.Line.TheVariants.{Held}
 use Rattle.whim_bus.specs.declared.state.WhimBus.{WhimBus}
 use Rattle.whim_bus.specs.Rows.{Stage, empty, fresh, commanded, ended, Row}
 use Rattle.whim_bus.specs.State.{row}
 use Rattle.whim_bus.specs.Showing.{must_wait, next_shown, underway_shown, held_shown, line_shown, shown}
-use Rattle.whim_bus.specs.View.{view}
-use Rattle.whim_bus.proofs.Changing.{row_at, holder_in_rows}
+use Rattle.whim_bus.specs.View.{row_of, view, HasLine}
+use Rattle.whim_bus.proofs.Changing.{row_at}
 
 -- what is shown of a command that is underway, by the draw
 by_draw : (P : Shown → Type 0) (m : Model) (rs : List Row) (r : Row) (d : List ℕ) (v : ℕ) → ((n : ℕ) → P (MessageIn n)) → P (next_shown m rs r d)
@@ -59,9 +59,10 @@ held_room m rs r small (commanded d) v h =
     (λ h. absurd (false≢true h)) (λ h. absurd (false≢true h))) h
 held_room m rs r small (ended d st) v h = absurd (false≢true h)
 
-pub data_room : {X : Type 0} (model : X → Model) (s : WhimBus X) → length s.rows ≡ 16 → ((t l : ℕ) (d : List ℕ) → count_of (model s.shelf) t l d ≤ 2048)
-    → is_data (shown (view model s)) ≡ true → (k : ℕ) (d : KeptRow) → s.line ≡ Held k → (get_or s.rows k d).place < 2048
-data_room model s n small h k d e =
-    subst (λ (r : Row). r.place < 2048) (row_at s.rows k d (subst (λ (m : ℕ). k < m) (sym n) (holder_in_rows s k e)))
+pub data_room : {X : Type 0} (model : X → Model) (s : WhimBus X) → ((t l : ℕ) (d : List ℕ) → count_of (model s.shelf) t l d ≤ 2048)
+    → is_data (shown (view model s)) ≡ true → (r : KeptRow) → HasLine s r → r.place < 2048
+data_room model s small h r (k, e, is) =
+    let at = row_at s.rows k r (slice_get_within s.rows k r is) ∙ ap row_of (get_or_from_slice_get s.rows k r r is) in
+    subst (λ (r : Row). r.place < 2048) at
     (held_room (model s.shelf) (view model s).rows (row (view model s) k) small (row (view model s) k).stage s.draw
     (ap (λ (l : Line). is_data (line_shown (view model s) l)) (sym e) ∙ h))

@@ -2,7 +2,7 @@
 use Rattle.std.specs.Prelude.{ℕ, ◌+◌, ◌%◌, Bool, List, replicate, ◌==◌, slice_index, slice_index_or, slice_set}
 use Rattle.shelf.specs.Model.{Model}
 use Rattle.whim_bus.specs.declared.state.Line.{Line}
-use Rattle.whim_bus.specs.declared.state.Line.TheVariants.{Free, Retaken, Held}
+use Rattle.whim_bus.specs.declared.state.Line.TheVariants.{Free}
 use Rattle.whim_bus.specs.Rows.{Row, blank}
 
 -- the shelf, sixteen rows, the line, 256 whim bytes and the number of the next one, and the byte drawn last
@@ -25,12 +25,6 @@ row w k = slice_index_or w.rows k blank
 -- odd loses a selection, and on a free line lets a nexus come back
 abbrev pub odd : ℕ → Bool
 odd v = v % 2 == 1
-
--- the number of the row that has the line; 0 where none has
-abbrev pub row_number : Line → ℕ
-row_number Free = 0
-row_number (Retaken k h) = k
-row_number (Held k) = k
 
 ---- changes
 

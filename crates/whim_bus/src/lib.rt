@@ -8,4 +8,4 @@ mod shown;
 mod state;
 
 pub use rows::Row;
-pub use state::{Heard, Line, WhimBus};
+pub use state::{Heard, Line, RowNumber, WhimBus};

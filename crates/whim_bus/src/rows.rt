@@ -9,7 +9,7 @@ ghost use Rattle.whim_bus.specs.Text.{is_underway, sent, ending};
 ghost use Rattle.whim_bus.specs.View.{row_of};
 
 use bus::{Opened, Stage};
-use scsi::{Cdb, Greeting};
+use scsi::Cdb;
 use shelf::{Shelf, Unit, Way};
 
 /// A row: what its nexus was opened with, how far it has come, its place in the data and its saved place, and its out bytes by place.
@@ -25,14 +25,7 @@ pub struct Row {
 impl Row {
     /// A row that never had a nexus.
     pub(crate) const BLANK: Row = Row {
-        opened: Opened {
-            target: 0,
-            greeting: Greeting {
-                lun: 0,
-                leave: false,
-                tag: None,
-            },
-        },
+        opened: Opened::NONE,
         stage: Stage::Empty,
         place: 0,
         saved: 0,

@@ -1,5 +1,5 @@
 // What the whim bus shows.
-ghost use Rattle.std.specs.Prelude.{◌≡◌, ◌<◌, ◌&&◌, IfSome};
+ghost use Rattle.std.specs.Prelude.{◌≡◌, ◌&&◌};
 ghost use Rattle.std.specs.List.{list_any};
 ghost use Rattle.scsi.specs.Kept.{cdb_bytes};
 ghost use Rattle.whim_bus.specs.Rows.{reads};
@@ -7,8 +7,8 @@ ghost use Rattle.whim_bus.specs.Showing.{is_out, waiting_shown, next_shown, unde
 ghost use Rattle.whim_bus.specs.View.{stage_of, row_of, view};
 
 use crate::rows::{Row, is_odd};
-use crate::state::{Heard, Line, WhimBus};
-use bus::{Shown, Stage};
+use crate::state::{Heard, Line, RowNumber, WhimBus};
+use bus::{Shown, Stage, data_shown};
 use scsi::{Cdb, identify};
 use shelf::{Shelf, Unit, Way};
 
@@ -57,11 +57,7 @@ impl<S: Shelf> WhimBus<S> {
         let bytes = command.as_slice();
         let (way, count) = self.shelf.way(unit, bytes);
         if row.place < count {
-            return match way {
-                Way::Still => Shown::Pause,
-                Way::In => Shown::DataIn(self.shelf.byte(unit, bytes, row.place)),
-                Way::Out => Shown::DataOut,
-            };
+            return data_shown(&self.shelf, unit, bytes, way, row.place);
         }
         if self.must_wait(way, unit) {
             return row.waiting_shown();
@@ -94,14 +90,16 @@ impl<S: Shelf> WhimBus<S> {
     }
 
     // The row whose nexus comes back to a free line, by the draw.
-    pub(crate) fn returner(&self) -> Option<usize>
-        ensures first { result ≡ coming_back (view S.Shelf.model self.now) }
-        ensures in_rows { IfSome result (λ k. k < 16) }
+    pub(crate) fn returner(&self) -> Option<RowNumber>
+        ensures { result ≡ coming_back (view S.Shelf.model self.now) }
     {
         if !is_odd(self.draw) {
             return None;
         }
-        self.rows.iter().position(|row| row.is_open())
+        self.rows
+            .iter()
+            .position(|row| row.is_open())
+            .and_then(RowNumber::at)
     }
 
     // What is shown on a free line, by the draw.
@@ -109,7 +107,7 @@ impl<S: Shelf> WhimBus<S> {
         ensures { result ≡ free_shown (view S.Shelf.model self.now) }
     {
         match self.returner() {
-            Some(k) => Shown::Reselect(self.rows[k].opened.target),
+            Some(k) => Shown::Reselect(self.rows[k.place()].opened.target),
             None => Shown::Free,
         }
     }
@@ -120,8 +118,8 @@ impl<S: Shelf> WhimBus<S> {
     {
         match self.line {
             Line::Free => self.free_shown(),
-            Line::Retaken(k, heard) => self.rows[k].greeting_shown(heard),
-            Line::Held(k) => self.held_shown(&self.rows[k]),
+            Line::Retaken(k, heard) => self.rows[k.place()].greeting_shown(heard),
+            Line::Held(k) => self.held_shown(&self.rows[k.place()]),
         }
     }
 }

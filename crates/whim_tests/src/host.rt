@@ -1,11 +1,11 @@
 // A host that keeps several commands open on a disk and a film recorder, and notes all that it is shown.
 ghost use Rattle.std.specs.Prelude.{◌<◌, ◌≤◌};
 
-use crate::adler::Adler;
 use bus::{Bus, Selection, Shown};
-use scsi::Greeting;
+use scsi::{Greeting, Word};
+use strip::Adler;
 
-/// What the host asks for, in turn and round and round: target, LUN, leave, tag, command. Unnamed, so that the table has a line for each.
+/// What the host asks for, in turn and round and round: target, LUN, leave, tag, command. Unnamed, not as an `Opened`, so that the table has a line for each.
 #[derive(Clone, Copy)]
 struct Order(u8, u8, bool, Option<u8>, [u8; 6]);
 
@@ -48,9 +48,9 @@ impl Host {
         if turn % 6000 == 5999 {
             bus.reset();
         } else if turn % 503 == 502 && line_held {
-            let _ = bus.speak(&[0x06]);
+            let _ = bus.speak(&Word::Abort.bytes());
         } else if turn % 101 == 100 && line_held {
-            let _ = bus.speak(&[0x08]);
+            let _ = bus.speak(&Word::NoOperation.bytes());
         } else if turn % 7 == 6 && shown != Shown::DataOut {
             let _ = bus.give(1);
         } else {

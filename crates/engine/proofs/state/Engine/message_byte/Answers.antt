@@ -1,4 +1,4 @@
-use Rattle.std.proofs.Common.{◌≡◌, ℕ, List, [], ◌∷◌, ◌++◌, ap, ◌∙◌}
+use Rattle.std.proofs.Common.{◌≡◌, ℕ, List, [], ◌∷◌, ◌++◌, Option, ap, ◌∙◌}
 use Rattle.arrayvec.specs.ArrayVec.{ArrayVec}
 use Rattle.scsi.specs.Messages.{message_of}
 use Rattle.slots.specs.declared.line.Heard.{Heard}
@@ -11,7 +11,7 @@ use Rattle.engine.proofs.Rows.{by_heard_line}
 use Rattle.engine.proofs.state.Engine.message_byte.Goals as goal
 
 -- what the message comes to, as it was begun
-message_said : (s : Slots) (k : ℕ) (x : Entry) (v : ℕ) (rest bs : List ℕ) (h : Heard) → bs ≡ s.begun.items ++ v ∷ [] → h ≡ heard_of (message_of bs)
+message_said : (s : Slots) (k : ℕ) (x : Entry) (v : ℕ) (rest bs : List ℕ) (h : Option Heard) → bs ≡ s.begun.items ++ v ∷ [] → h ≡ heard_of (message_of bs)
     → by_heard (set_line (line_of s.line rest) (view s)) k x bs h x.status ≡ by_heard (view s) k x (s.begun.items ++ v ∷ []) (heard_of (message_of (s.begun.items ++ v ∷ []))) x.status
 message_said s k x v rest bs h p q =
     by_heard_line (view s) (line_of s.line rest) k x bs h x.status

@@ -4,8 +4,8 @@ use Rattle.engine.proofs.state.Engine.put_back.Goals as goal
 
 pub invariant_of-self : goal.invariant_of-self
 invariant_of-self c = rw (at_place c.place.ensures.value, c.get-self.ensures.value)
-    (whole_put c.args.self.now c.args.k c.args.slot c.requires.as_kept c.requires.finished)
+    (whole_put c.args.self.now c.args.k c.slot.result c.slot.ensures.numbered c.slot.ensures.slot c.requires)
 
 pub returns : goal.returns
 returns c = rw (at_place c.place.ensures.value, c.get-self.ensures.value)
-    (view_put c.args.self.now c.args.k c.args.slot c.requires.as_kept c.requires.finished)
+    (view_put c.args.self.now c.args.k c.slot.result c.slot.ensures.numbered c.slot.ensures.slot c.requires)

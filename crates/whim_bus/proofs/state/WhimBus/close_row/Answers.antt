@@ -7,4 +7,4 @@ use Rattle.whim_bus.proofs.state.WhimBus.close_row.Goals as goal
 
 pub returns : goal.returns
 returns g c =
-    ap (λ (w : Whim). with_line Free w) (changed g.S.Shelf.model c.args.self.now (omega arith) emptied c.args.k _ _ c.close.ensures c.requires)
+    ap (λ (w : Whim). with_line Free w) (changed g.S.Shelf.model c.args.self.now (omega arith) emptied c.args.k _ _ _ c.close.ensures c.place.ensures.value c.place.ensures.inside)

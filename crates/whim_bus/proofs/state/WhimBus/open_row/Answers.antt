@@ -8,4 +8,4 @@ use Rattle.whim_bus.proofs.state.WhimBus.open_row.Goals as goal
 pub returns : goal.returns
 returns g c =
     ap (λ (w : Whim). with_line (Held c.args.k) w)
-    (changed g.S.Shelf.model c.args.self.now (omega arith) (taken_by c.args.opened.target c.args.opened.greeting) c.args.k _ _ c.open.ensures c.requires)
+    (changed g.S.Shelf.model c.args.self.now (omega arith) (taken_by c.args.opened.target c.args.opened.greeting) c.args.k _ _ _ c.open.ensures c.place.ensures.value c.place.ensures.inside)
