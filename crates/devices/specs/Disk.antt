@@ -1,14 +1,11 @@
 -- A disk of blocks of 512 bytes. Assumes nothing.
-use Rattle.std.specs.Prelude.{ℕ, ◌+◌, ◌*◌, ◌/◌, ◌%◌, Bool, true, cond, ◌&&◌, List, Some, None, vec_items, vec_len, Option, ◌==◌, nat_le, slice_index}
+use Rattle.std.specs.Prelude.{ℕ, ◌+◌, ◌*◌, ◌%◌, Bool, true, cond, ◌&&◌, List, Some, None, Option, ◌==◌, nat_le, slice_index}
 use Rattle.shelf.specs.declared.Way.{Way}
 use Rattle.shelf.specs.declared.Way.TheVariants.{Still, In, Out}
-use Rattle.shelf.specs.Model.{Model}
 use Rattle.devices.specs.declared.device.MakeError.{MakeError}
 use Rattle.devices.specs.declared.device.MakeError.TheVariants.{TooManyBlocks}
-use Rattle.devices.specs.declared.device.At.{At}
-use Rattle.devices.specs.declared.disk.Blocks.{Blocks}
 use Rattle.devices.specs.Making.{refused_at}
-use Rattle.devices.specs.Device.{Device, overlaid, device_model}
+use Rattle.devices.specs.Device.{Device, overlaid}
 
 -- the first block that a command speaks of, and how many; 0 means 256
 abbrev pub first_block : List ℕ → ℕ
@@ -38,7 +35,3 @@ disk blocks = record {
 -- why no disk of so many blocks is made at this target
 abbrev pub disk_refused : ℕ → ℕ → Option MakeError
 disk_refused at blocks = refused_at at (cond (nat_le blocks 2097152) None (Some TooManyBlocks))
-
--- what a Disk means
-abbrev pub disk_means : At Blocks → Model
-disk_means d = device_model d.target (disk (vec_len d.device.bytes / 512)) (vec_items d.device.bytes)

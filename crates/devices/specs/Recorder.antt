@@ -1,10 +1,7 @@
 -- A film recorder. Assumes nothing.
-use Rattle.std.specs.Prelude.{ℕ, ◌+◌, ◌*◌, ◌%◌, Bool, cond, ◌&&◌, List, ◌++◌, length, vec_items, vec_capacity, ◌==◌, nat_le, slice_index}
+use Rattle.std.specs.Prelude.{ℕ, ◌+◌, ◌*◌, ◌%◌, Bool, cond, ◌&&◌, List, ◌++◌, length, ◌==◌, nat_le, slice_index}
 use Rattle.shelf.specs.declared.Way.TheVariants.{Still, Out}
-use Rattle.shelf.specs.Model.{Model}
-use Rattle.devices.specs.declared.device.At.{At}
-use Rattle.devices.specs.declared.recorder.Film.{Film}
-use Rattle.devices.specs.Device.{Device, device_model}
+use Rattle.devices.specs.Device.{Device}
 
 -- how many bytes a PRINT speaks of
 abbrev pub print_count : List ℕ → ℕ
@@ -23,7 +20,3 @@ recorder capacity = record {
   space = λ held c. nat_le (length held + print_count c) capacity;
   filled = λ held c o. held ++ o;
 }
-
--- what a Recorder means
-abbrev pub recorder_means : At Film → Model
-recorder_means r = device_model r.target (recorder (vec_capacity r.device.bytes)) (vec_items r.device.bytes)

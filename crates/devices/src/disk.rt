@@ -2,11 +2,11 @@
 ghost use Rattle.std.specs.Prelude.{◌≡◌, ◌*◌, ◌/◌, ◌<◌, ◌≤◌, replicate, vec_len};
 ghost use Rattle.devices.specs.Device.{device_model};
 ghost use Rattle.devices.specs.Making.{Making};
-ghost use Rattle.devices.specs.Disk.{first_block, block_count, on_disk, disk, disk_refused, disk_means};
+ghost use Rattle.devices.specs.Disk.{first_block, block_count, on_disk, disk, disk_refused};
 ghost use Rattle.std.proofs.Common.{rules};
 
 use crate::device::{At, Device, MakeError, check_target};
-use shelf::Way;
+use shelf::{Shelf, Way};
 use std::alloc::Global;
 
 const BLOCK: usize = 512;
@@ -30,7 +30,7 @@ pub type Disk = At<Blocks>;
 impl Disk {
     /// A disk of so many blocks of zeros.
     pub fn new(heap: Global, target: u8, blocks: u32) -> Result<Disk, MakeError>
-        ensures { Making (disk_refused target blocks) (λ d. disk_means d ≡ device_model target (disk blocks) (replicate (blocks * 512) 0)) result }
+        ensures { Making (disk_refused target blocks) (λ d. ⟦<At<Blocks> as Shelf>⟧.model d ≡ device_model target (disk blocks) (replicate (blocks * 512) 0)) result }
     {
         check_target(target)?;
         if blocks > MOST_BLOCKS {

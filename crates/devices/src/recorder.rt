@@ -3,11 +3,11 @@ ghost use Rattle.std.specs.Prelude.{◌≡◌, ℕ, ◌<◌, true, [], None, vec
 ghost use Rattle.shelf.specs.Model.{is_present};
 ghost use Rattle.devices.specs.Device.{device_model};
 ghost use Rattle.devices.specs.Making.{Making, refused_at};
-ghost use Rattle.devices.specs.Recorder.{print_count, recorder, recorder_means};
+ghost use Rattle.devices.specs.Recorder.{print_count, recorder};
 ghost use Rattle.std.proofs.Common.{rules};
 
 use crate::device::{At, Device, MakeError, check_target};
-use shelf::Way;
+use shelf::{Shelf, Way};
 use std::alloc::Global;
 
 const PRINT: u8 = 0x0A;
@@ -24,7 +24,7 @@ pub type Recorder = At<Film>;
 impl Recorder {
     /// A recorder with an empty film, which has space for so many bytes.
     pub fn new(heap: Global, target: u8, capacity: usize) -> Result<Recorder, MakeError>
-        ensures { Making (refused_at target None) (λ d. recorder_means d ≡ device_model target (recorder capacity) []) result }
+        ensures { Making (refused_at target None) (λ d. ⟦<At<Film> as Shelf>⟧.model d ≡ device_model target (recorder capacity) []) result }
     {
         check_target(target)?;
         let bytes = Vec::with_capacity(heap, capacity)?;
@@ -36,7 +36,7 @@ impl Recorder {
 
     /// What was printed: LUN 0 of the recorder's target holds it.
     pub fn film(&self) -> &[u8]
-        ensures { (t : ℕ) → is_present (recorder_means self.now) t ≡ true → result.now ≡ (recorder_means self.now).holds t 0 }
+        ensures { (t : ℕ) → is_present (⟦<At<Film> as Shelf>⟧.model self.now) t ≡ true → result.now ≡ (⟦<At<Film> as Shelf>⟧.model self.now).holds t 0 }
     {
         &self.device.bytes
     }
