@@ -150,7 +150,10 @@ impl<D: Device> Shelf for At<D> {
         let status = self.status(unit, command);
         if let Some(command) = self.heard(unit, command) {
             let (way, count) = self.device.way(command);
-            if way == Way::Out && status == GOOD && out.len() == usize::from(count) {
+            if way == Way::Out
+                && out.len() == usize::from(count)
+                && self.device.has_space(command)
+            {
                 self.device.fill(command, out);
             }
         }

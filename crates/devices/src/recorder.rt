@@ -1,5 +1,5 @@
 // A film recorder, at one target.
-ghost use Rattle.std.specs.Prelude.{◌≡◌, ℕ, ◌<◌, true, [], None, vec_capacity};
+ghost use Rattle.std.specs.Prelude.{◌≡◌, ℕ, ◌<◌, ◌≤◌, true, [], None, vec_len, vec_capacity};
 ghost use Rattle.shelf.specs.Model.{is_present};
 ghost use Rattle.devices.specs.Device.{device_model};
 ghost use Rattle.devices.specs.Making.{Making, refused_at};
@@ -12,10 +12,14 @@ use std::alloc::Global;
 
 const PRINT: u8 = 0x0A;
 
-/// The film of a recorder, which is made once and filled from its start.
+/// The film of a recorder: room is made once for all that it has space for, and it is filled from its start.
 #[derive(Drop)]
 pub struct Film {
     bytes: Vec<u8>,
+    // How many bytes it has space for. Of a vector's own capacity `extend_from_slice` promises only that it never shrinks.
+    capacity: usize,
+    ghost within: { vec_len bytes ≤ capacity },
+    ghost room: { capacity ≤ vec_capacity bytes },
 }
 
 /// A film recorder.
@@ -30,7 +34,7 @@ impl Recorder {
         let bytes = Vec::with_capacity(heap, capacity)?;
         Ok(At {
             target,
-            device: Film { bytes },
+            device: Film { bytes, capacity },
         })
     }
 
@@ -43,7 +47,7 @@ impl Recorder {
 }
 
 impl Device for Film {
-    ghost answers = { λ f. recorder (vec_capacity f.bytes) };
+    ghost answers = { λ f. recorder f.capacity };
 
     ghost holds = { λ f. f.bytes.items };
 
@@ -63,14 +67,12 @@ impl Device for Film {
     }
 
     fn has_space(&self, command: &[u8; 6]) -> bool {
-        print_count(command) <= self.bytes.capacity() - self.bytes.len()
+        print_count(command) <= self.capacity - self.bytes.len()
     }
 
     fn fill(&mut self, _command: &[u8; 6], out: &[u8]) {
-        // The space was made with the film, so no push allocates; `extend_from_slice` would answer a `Result`.
-        for &byte in out {
-            self.bytes.push_reserved(byte);
-        }
+        // It does not fail: the room was made with the film, so nothing is allocated.
+        let _ = self.bytes.extend_from_slice(out);
     }
 }
 

@@ -9,7 +9,7 @@ use Rattle.slots.specs.declared.slot.Slot.{Slot}
 use Rattle.slots.specs.declared.slot.Slots.{Slots}
 use Rattle.slots.specs.declared.line.Line.{Line}
 use Rattle.slots.specs.declared.line.Line.TheVariants.{Idle, Greeted, Named, TagDue, Held}
-use Rattle.table.specs.Engine.{Command, Entry, Line as TableLine, idle, held, in_use, is_waiting, is_open, is_finished, numbered, stands_on, put_slot, set_slot, set_line, with_state}
+use Rattle.table.specs.Engine.{Command, Entry, Line as TableLine, idle, held, in_use, is_waiting, is_open, is_finished, numbered, stands_on, put_slot, set_slot, set_line, with_state, with_pointers}
 use Rattle.table.specs.Table.{cleared}
 use Rattle.table.specs.Calls.{just_accepted, taken_in, put_back, open_or_waiting, reset_engine}
 use Rattle.table.specs.View.{entry_of, slot_at, nexts, chain, line_of, view, Linked, before, reset_slot}
@@ -33,6 +33,10 @@ use Rattle.engine.proofs.Whole.{Whole, whole_by, no_message, linked_of, sound_of
 -- slot k written, with the line and what has begun
 abbrev pub written : Slots → ℕ → Slot → Line → ArrayVec ℕ → Slots
 written s k x l b = record { slots = set s.slots (k - 1) x; free = s.free; waiting = s.waiting; line = l; begun = b; size = s.size }
+
+-- a slot with another current pointer
+abbrev pointed : ℕ → Slot → Slot
+pointed c x = record { next = x.next; state = x.state; command = x.command; current = c; saved = x.saved; sent = x.sent; status = x.status }
 
 module _ (e : Kept) (b : ArrayVec ℕ) (z : b.items ≡ []) where
   abbrev s : Slots
@@ -78,6 +82,19 @@ module _ (e : Kept) (b : ArrayVec ℕ) (z : b.items ≡ []) where
   module _ (h : Holder) (q : slot_at s.slots h.k ≡ h.slot) where
     open_held : is_open (slot_at s.slots h.k).state ≡ true
     open_held = ap (λ (y : Slot). is_open y.state) q ∙ ap is_open h.connected
+
+    -- in its current pointer alone
+    module _ (c : ℕ) where
+      connected : (slot_at s.slots h.k).state ≡ Connected
+      connected = ap (λ (y : Slot). y.state) q ∙ h.connected
+
+      pub view_point : view (written s h.k (pointed c (slot_at s.slots h.k)) (Held h.k) b) ≡ set_slot h.k (with_pointers c h.slot.saved (entry_of h.slot)) (held h.k []) (view s)
+      view_point =
+          view_keep h.k (pointed c (slot_at s.slots h.k)) h.numbered open_held refl connected
+          ∙ ap (λ (y : Slot). set_slot h.k (entry_of (pointed c y)) (held h.k []) (view s)) q
+
+      pub whole_point : Whole (written s h.k (pointed c (slot_at s.slots h.k)) (Held h.k) b)
+      whole_point = whole_keep h.k (pointed c (slot_at s.slots h.k)) h.numbered open_held refl connected
 
     -- and the line is idle
     module _ (t : State) (u : in_use t ≡ true) (w : is_waiting t ≡ false) where

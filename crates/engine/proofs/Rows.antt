@@ -1,5 +1,5 @@
 -- Which row of the step table the code is in. Assumes nothing.
-use Rattle.std.proofs.Common.{◌≡◌, ℕ, ◌+◌, ◌-◌, ◌<◌, ◌≤◌, Bool, true, false, cond, ltb, leb, List, [], ◌∷◌, ◌++◌, Some, None, Option, Ok, Err, Result, sym, refl, ap, ◌∙◌}
+use Rattle.std.proofs.Common.{◌≡◌, ℕ, ◌+◌, ◌-◌, ◌<◌, ◌≤◌, Bool, true, false, cond, ltb, leb, List, [], ◌∷◌, ◌++◌, Some, None, Option, IsNone, Ok, Err, Result, sym, refl, ap, ◌∙◌}
 use Rattle.bus.specs.declared.Shown.{Shown}
 use Rattle.bus.specs.declared.Shown.TheVariants.{DataOut, DataIn, Command, Status, Reserved4, Reserved5, MessageOut, MessageIn, Free, Reselect, Pause}
 use Rattle.scsi.specs.declared.greeting.Greeting.{Greeting}
@@ -78,6 +78,22 @@ by_heard_line e l k x bs (Some Restore) (Some t) = refl
 by_heard_line e l k x bs (Some Disconnect) (Some t) = refl
 by_heard_line e l k x bs (Some Reject) (Some t) = refl
 by_heard_line e l k x bs (Some Other) (Some t) = refl
+
+-- of its bytes nothing is kept once it is whole
+pub by_heard_bytes : (e : Engine) (k : ℕ) (x : Entry) (bs bs' : List ℕ) (h : Option Heard) (o : Option ℕ) → (IsNone h → bs ≡ bs') → by_heard e k x bs h o ≡ by_heard e k x bs' h o
+by_heard_bytes e k x bs bs' None o r = ap (λ (bs : List ℕ). by_heard e k x bs None o) (r refl)
+by_heard_bytes e k x bs bs' (Some Save) None r = refl
+by_heard_bytes e k x bs bs' (Some Restore) None r = refl
+by_heard_bytes e k x bs bs' (Some Disconnect) None r = refl
+by_heard_bytes e k x bs bs' (Some Reject) None r = refl
+by_heard_bytes e k x bs bs' (Some Complete) None r = refl
+by_heard_bytes e k x bs bs' (Some Other) None r = refl
+by_heard_bytes e k x bs bs' (Some Complete) (Some t) r = refl
+by_heard_bytes e k x bs bs' (Some Save) (Some t) r = refl
+by_heard_bytes e k x bs bs' (Some Restore) (Some t) r = refl
+by_heard_bytes e k x bs bs' (Some Disconnect) (Some t) r = refl
+by_heard_bytes e k x bs bs' (Some Reject) (Some t) r = refl
+by_heard_bytes e k x bs bs' (Some Other) (Some t) r = refl
 
 -- the call that selects slot k, which is x
 pub selects : (s : Slots) (k : ℕ) (x : Slot) → numbered k ≡ true → x ≡ slot_at s.slots k → (g : Greeting) (bs : List ℕ) → bs ≡ greeting_bytes g.leave g.lun g.tag

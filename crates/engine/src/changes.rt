@@ -1,6 +1,6 @@
 // The changes of the engine that leave it whole; everything else is built from them.
-ghost use Rattle.std.specs.Prelude.{◌≡◌, ◌≤◌, Bool, true, false, [], map, length};
-ghost use Rattle.table.specs.Engine.{held as holds, idle, in_use, is_waiting, is_open, set_slot, unlink_slot, set_line, with_state, stands_on, is_finished};
+ghost use Rattle.std.specs.Prelude.{◌≡◌, Bool, true, false, [], map};
+ghost use Rattle.table.specs.Engine.{held as holds, idle, in_use, is_waiting, is_open, set_slot, unlink_slot, set_line, with_state, with_pointers, stands_on, is_finished};
 ghost use Rattle.table.specs.Table.{cleared};
 ghost use Rattle.table.specs.Calls.{just_accepted, taken_in, put_back, open_or_waiting, reset_engine};
 ghost use Rattle.table.specs.View.{view, slot_at, entry_of, command_of, line_of, reset_slot};
@@ -9,7 +9,6 @@ ghost use Rattle.engine.specs.Fields.{GoesOn, Decides, unheld};
 use crate::chains::before;
 use crate::held::Held;
 use crate::state::Engine;
-use arrayvec::ArrayVec;
 use slots::{Command, Line, Outcome, Slot, SlotNumber, State};
 
 impl Engine {
@@ -20,6 +19,17 @@ impl Engine {
         ensures { view self.new.state ≡ set_slot held.k (entry_of held.slot) (holds held.k []) (view self.old.state) }
     {
         self.state.slots[held.k.place()] = held.slot;
+        self.state.line = Line::Held(held.k);
+        self.state.begun.clear();
+    }
+
+    // The slot's current pointer is this, and it holds the line with no begun message.
+    pub(crate) fn point(&mut self, held: &Held, current: u32)
+        requires { slot_at self.old.state.slots held.now.k ≡ held.now.slot }
+        ensures { view self.new.state ≡ set_slot held.now.k (with_pointers current held.now.slot.saved (entry_of held.now.slot)) (holds held.now.k []) (view self.old.state) }
+    {
+        // In place, so that no slot is copied for a data byte.
+        self.state.slots[held.k.place()].current = current;
         self.state.line = Line::Held(held.k);
         self.state.begun.clear();
     }
@@ -43,16 +53,6 @@ impl Engine {
     {
         self.state.line = Line::Held(held.k);
         self.state.begun.clear();
-    }
-
-    // The slot holds the line, and this message has begun.
-    pub(crate) fn hear_more(&mut self, held: &Held, message: ArrayVec<u8, 258>)
-        requires as_kept { slot_at self.old.state.slots held.now.k ≡ held.now.slot }
-        requires room { length message.items ≤ 257 }
-        ensures { view self.new.state ≡ set_line (holds held.now.k message.items) (view self.old.state) }
-    {
-        self.state.line = Line::Held(held.k);
-        self.state.begun = message;
     }
 
     // The line is held by no slot.

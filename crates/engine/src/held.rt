@@ -155,14 +155,7 @@ impl Engine {
         ensures answer { result ≡ Answer.Moved held.now.k }
         ensures after { view self.new.state ≡ advance_by (view self.old.state) held.now.k (entry_of held.now.slot) }
     {
-        let moved = Slot {
-            current: held.slot.current + 1,
-            ..held.slot
-        };
-        self.keep(Held {
-            k: held.k,
-            slot: moved,
-        });
+        self.point(held, held.slot.current + 1);
         Answer::Moved(held.k)
     }
 

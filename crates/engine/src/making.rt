@@ -51,9 +51,26 @@ fn fresh(next: u8) -> Slot
     }
 }
 
-// The slots with the free chain 1 to 16.
+// The slots with the free chain 1 to 16. One by one: `map` over their numbers took three times as long to make an engine.
 fn fresh_slots() -> [Slot; 16]
     ensures { result ≡ fresh_slots }
 {
-    [2, 3, 4, 5, 6, 7, 8, 9, 10, 11, 12, 13, 14, 15, 16, 0].map(fresh)
+    [
+        fresh(2),
+        fresh(3),
+        fresh(4),
+        fresh(5),
+        fresh(6),
+        fresh(7),
+        fresh(8),
+        fresh(9),
+        fresh(10),
+        fresh(11),
+        fresh(12),
+        fresh(13),
+        fresh(14),
+        fresh(15),
+        fresh(16),
+        fresh(0),
+    ]
 }

@@ -7,7 +7,7 @@ ghost use Rattle.std.specs.Prelude.{◌<◌, ◌^◌};
 mod interrupted;
 
 use anyhow::{bail, ensure};
-use carrier::{carry_in, carry_out};
+use carrier::{Carried, carry_in, carry_out};
 use devices::{Disk, Pair, Recorder};
 use shelf::Unit;
 use strict_bus::StrictBus;
@@ -144,12 +144,12 @@ impl Cable for StrictBus<Units> {
             Order::Write(_) | Order::Print(_) => carry_out(self, unit, &command, out)?,
         };
         let Unit { target, lun } = unit;
-        let status = carried.status;
-        print!(rt; "target {target} LUN {lun}")?;
-        for byte in command {
-            print!(rt; " {byte:02X}")?;
-        }
-        println!(rt; " {order}: {} bytes, status {status:02X}h", carried.moved)?;
+        let Carried { status, moved } = carried;
+        let [a, b, c, d, e, f] = command;
+        // One call, so that the line goes out whole.
+        println!(rt;
+            "target {target} LUN {lun} {a:02X} {b:02X} {c:02X} {d:02X} {e:02X} {f:02X} {order}: {moved} bytes, status {status:02X}h"
+        )?;
         if status != 0 {
             println!(rt; "stopped: {order} at target {target} ended with status {status:02X}h")?;
             bail!("a command did not end with status 00h");

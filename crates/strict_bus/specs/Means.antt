@@ -1,5 +1,5 @@
 -- What the fields of a strict bus mean. Assumes nothing.
-use Rattle.std.specs.Prelude.{ℕ, Bool, true, List, Some, None, Option}
+use Rattle.std.specs.Prelude.{ℕ, Bool, true, List, take, Some, None, Option}
 use Rattle.scsi.specs.Kept.{cdb_bytes}
 use Rattle.shelf.specs.Model.{Model}
 use Rattle.bus.specs.declared.Shown.{Shown}
@@ -8,6 +8,7 @@ use Rattle.bus.specs.State.{Name, Nexus, Cable, BusState}
 use Rattle.bus.specs.Refusals.{name_of}
 use Rattle.bus.specs.declared.Stage.{Stage}
 use Rattle.bus.specs.declared.Stage.TheVariants.{Empty, Fresh, Commanded, Ended}
+use Rattle.strict_bus.specs.declared.out.OutBytes.{OutBytes}
 use Rattle.strict_bus.specs.declared.state.StrictBus.{StrictBus}
 use Rattle.bus.specs.Single.{resting, holding}
 use Rattle.strict_bus.specs.Text.{underway}
@@ -41,5 +42,9 @@ at m n leave p out g = record { cable = cable_at m n leave p out g; shown = show
 abbrev pub name_in : {X : Type 0} → StrictBus X → Name
 name_in s = name_of s.opened.target s.opened.greeting
 
+-- the out bytes that a nexus was given
+abbrev pub bytes_in : OutBytes → List ℕ
+bytes_in o = take o.count o.bytes
+
 abbrev pub meaning : {X : Type 0} → (X → Model) → StrictBus X → BusState
-meaning model s = at (model s.shelf) (name_in s) s.opened.greeting.leave s.place s.out.items s.stage
+meaning model s = at (model s.shelf) (name_in s) s.opened.greeting.leave s.place (bytes_in s.out) s.stage

@@ -9,8 +9,8 @@ ghost use Rattle.std.proofs.Common.{rules};
 ghost use Rattle.strict_bus.specs.Stages.{stage_shows, stage_settled};
 ghost use Rattle.strict_bus.specs.Keeping;
 
+use crate::out::OutBytes;
 use crate::state::StrictBus;
-use arrayvec::ArrayVec;
 use bus::{Bus, Opened, Refusal, Selection, Shown, Stage, data_shown, is_abort};
 use scsi::{Cdb, Greeting};
 use shelf::Shelf;
@@ -26,7 +26,7 @@ impl<S: Shelf> StrictBus<S> {
             stage: Stage::Empty,
             opened: Opened::NONE,
             place: 0,
-            out: ArrayVec::new(),
+            out: OutBytes::NONE,
         }
     }
 
@@ -131,9 +131,10 @@ impl<S: Shelf> Bus for StrictBus<S> {
                 _ => Err(Refusal::Misfit),
             },
             Stage::Ended(command, _) => {
+                let out = self.out.as_slice();
                 let _ = self
                     .shelf
-                    .finish(self.opened.unit(), command.as_slice(), &self.out);
+                    .finish(self.opened.unit(), command.as_slice(), out);
                 self.stage = Stage::Empty;
                 Ok(0)
             }

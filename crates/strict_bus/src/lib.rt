@@ -2,6 +2,7 @@
 #![tactic(auto)]
 
 mod calls;
+mod out;
 mod state;
 
 pub use state::StrictBus;

@@ -1,7 +1,7 @@
 // What the strict bus holds.
-ghost use Rattle.std.specs.Prelude.{◌≤◌, length};
+ghost use Rattle.std.specs.Prelude.{◌≤◌};
 
-use arrayvec::ArrayVec;
+use crate::out::OutBytes;
 use bus::{Opened, Stage};
 
 /// A bus over any shelf that never loses a selection, moves each command straight through, and never lets go.
@@ -11,6 +11,7 @@ pub struct StrictBus<S> {
     pub(crate) stage: Stage,
     pub(crate) opened: Opened,
     pub(crate) place: u16,
-    pub(crate) out: ArrayVec<u8, 2048>,
-    ghost within: { length out.items ≤ place },
+    pub(crate) out: OutBytes,
+    ghost within: { out.count ≤ place },
+    ghost bound: { place ≤ 2048 },
 }

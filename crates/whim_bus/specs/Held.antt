@@ -103,7 +103,7 @@ module _ (w : Whim) (k : ℕ) (different : apart w.rows ≡ true) (each : all_so
         record {
           shelf = w.shelf;
           nexuses = λ j. path j i;
-          opened = number_same k w.rows r' (open_below k w.rows o) (o' ∙ sym o) i;
+          opened = number_same k w.rows r' (o' ∙ sym o) i;
           line = line_path i;
           begun = [];
         }
@@ -130,7 +130,7 @@ module _ (w : Whim) (k : ℕ) (different : apart w.rows ≡ true) (each : all_so
         record {
           shelf = w.shelf;
           nexuses = λ j. found_set w.shelf k w.rows (emptied (row w k)) (open_below k w.rows o) alone (λ _. refl) j i;
-          opened = number_less k w.rows (emptied (row w k)) (open_below k w.rows o) o refl i;
+          opened = number_less k w.rows (emptied (row w k)) o refl i;
           line = free;
           begun = [];
         }

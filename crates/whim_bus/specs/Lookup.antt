@@ -2,7 +2,7 @@
 use Rattle.std.specs.Prelude.{◌≡◌, ℕ, zero, suc, ◌+◌, ◌-◌, ◌<◌, Bool, true, false, cond, not, ◌&&◌, ◌||◌, List, [], ◌∷◌, map, length, Some, None, Option, ◌==◌, slice_index_or, slice_set, refl}
 use Rattle.std.specs.List.{list_any, count_by}
 use Rattle.std.proofs.Common.{sym, ap, ap₂, subst, ◌∙◌, ⊎_elim, arith}
-use Rattle.std.proofs.lemmas.List.{get_or_past}
+use Rattle.std.proofs.lemmas.List.{get_or_past, set_past}
 use Rattle.std.proofs.lemmas.List.Folds.{list_any_at}
 use Rattle.std.proofs.lemmas.List.Sums.{sum_by-cons, sum_by-set}
 use Rattle.std.proofs.lemmas.Bool.{cases_lt, eqb-true, and_parts, and_from, or_parts, not-true, false≢true}
@@ -121,18 +121,18 @@ abbrev one : Bool → ℕ
 one t = cond t 1 0
 
 -- row k of rs is changed to r'
-module _ (k : ℕ) (rs : List Row) (r' : Row) (l : k < length rs) where
-  recount : count_by is_open (slice_set rs k r') + one (is_open (slice_index_or rs k blank)) ≡ count_by is_open rs + one (is_open r')
-  recount = sum_by-set (λ r. one (is_open r)) rs k r' blank l
+module _ (k : ℕ) (rs : List Row) (r' : Row) where
+  recount : k < length rs → count_by is_open (slice_set rs k r') + one (is_open (slice_index_or rs k blank)) ≡ count_by is_open rs + one (is_open r')
+  recount l = sum_by-set (λ r. one (is_open r)) rs k r' blank l
 
   pub number_same : is_open r' ≡ is_open (slice_index_or rs k blank) → count_by is_open (slice_set rs k r') ≡ count_by is_open rs
-  number_same h = omega (arith, recount, ap one h)
+  number_same h = ⊎_elim (λ l. omega (arith, recount l, ap one h)) (λ p. ap (count_by is_open) (set_past rs k r' p)) (cases_lt k (length rs))
 
-  pub number_more : is_open (slice_index_or rs k blank) ≡ false → is_open r' ≡ true → count_by is_open (slice_set rs k r') ≡ suc (count_by is_open rs)
-  number_more h o = omega (arith, recount, ap one h, ap one o)
+  pub number_more : k < length rs → is_open (slice_index_or rs k blank) ≡ false → is_open r' ≡ true → count_by is_open (slice_set rs k r') ≡ suc (count_by is_open rs)
+  number_more l h o = omega (arith, recount l, ap one h, ap one o)
 
   pub number_less : is_open (slice_index_or rs k blank) ≡ true → is_open r' ≡ false → count_by is_open (slice_set rs k r') ≡ count_by is_open rs - 1
-  number_less h o = omega (arith, recount, ap one h, ap one o)
+  number_less h o = omega (arith, recount (open_below k rs h), ap one h, ap one o)
 
 ---- open rows keep different names
 

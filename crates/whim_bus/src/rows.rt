@@ -13,7 +13,7 @@ use scsi::Cdb;
 use shelf::{Shelf, Unit, Way};
 
 /// A row: what its nexus was opened with, how far it has come, its place in the data and its saved place, and its out bytes by place.
-#[derive(Drop)]
+#[derive(Clone, Copy)]
 pub struct Row {
     pub(crate) opened: Opened,
     pub(crate) stage: Stage,

@@ -1,21 +1,21 @@
-use Rattle.std.proofs.Common.{◌≡◌, ℕ, List, [], ◌∷◌, ◌++◌, Option, ap, ◌∙◌}
-use Rattle.arrayvec.specs.ArrayVec.{ArrayVec}
+use Rattle.std.proofs.Common.{◌≡◌, ℕ, List, [], ◌∷◌, ◌++◌, Option, IsNone, ap, ◌∙◌}
 use Rattle.scsi.specs.Messages.{message_of}
 use Rattle.slots.specs.declared.line.Heard.{Heard}
-use Rattle.slots.specs.declared.slot.Slots.{Slots}
-use Rattle.table.specs.Engine.{Entry, set_line}
+use Rattle.table.specs.Engine.{Engine, Entry, held, set_line}
 use Rattle.table.specs.Table.{heard_of, by_heard}
-use Rattle.table.specs.View.{view, entry_of, line_of}
+use Rattle.table.specs.View.{view, entry_of}
 use Rattle.table.proofs.Meanings.{plays_as}
-use Rattle.engine.proofs.Rows.{by_heard_line}
+use Rattle.engine.proofs.Rows.{by_heard_line, by_heard_bytes}
 use Rattle.engine.proofs.state.Engine.message_byte.Goals as goal
 
--- what the message comes to, as it was begun
-message_said : (s : Slots) (k : ℕ) (x : Entry) (v : ℕ) (rest bs : List ℕ) (h : Option Heard) → bs ≡ s.begun.items ++ v ∷ [] → h ≡ heard_of (message_of bs)
-    → by_heard (set_line (line_of s.line rest) (view s)) k x bs h x.status ≡ by_heard (view s) k x (s.begun.items ++ v ∷ []) (heard_of (message_of (s.begun.items ++ v ∷ []))) x.status
-message_said s k x v rest bs h p q =
-    by_heard_line (view s) (line_of s.line rest) k x bs h x.status
-    ∙ (λ i. by_heard (view s) k x (p i) ((q ∙ ap (λ (bs : List ℕ). heard_of (message_of bs)) p) i) x.status)
+-- what the message comes to, said of the engine before its last byte
+said : (e e' : Engine) (k : ℕ) (x : Entry) (bs bs' : List ℕ) (h : Option Heard) → e' ≡ set_line (held k bs') e → h ≡ heard_of (message_of bs) → (IsNone h → bs' ≡ bs)
+    → by_heard e' k x bs' h x.status ≡ by_heard e k x bs (heard_of (message_of bs)) x.status
+said e e' k x bs bs' h p q r =
+    ap (λ (e : Engine). by_heard e k x bs' h x.status) p
+    ∙ by_heard_line e (held k bs') k x bs' h x.status
+    ∙ by_heard_bytes e k x bs' bs h x.status r
+    ∙ ap (λ (h : Option Heard). by_heard e k x bs h x.status) q
 
 pub returns : goal.returns
 returns g c = λ m. (
@@ -23,8 +23,8 @@ returns g c = λ m. (
   _,
   c.take.ensures,
   plays_as (λ b. (g.B.Bus.means b).shown) g.B.Bus.did _ _
-      (message_said c.args.self.now.state c.args.held.now.k (entry_of c.args.held.now.slot) c.args.byte c.take-message.new.self.items c.push.new.self.items c.comes_to-heard.result
-      (c.push.ensures.items ∙ ap (λ (b : ArrayVec ℕ). b.items ++ c.args.byte ∷ []) c.take-message.ensures.value)
-      (c.comes_to-heard.ensures.heard ∙ ap (λ (bs : List ℕ). heard_of (message_of bs)) c.deref.ensures.0))
+      (said (view c.args.self.now.state) (view c.hear-heard.new.self.state) c.args.held.now.k (entry_of c.args.held.now.slot)
+      (c.args.self.now.state.begun.items ++ c.args.byte ∷ []) c.hear-heard.new.self.state.begun.items c.hear-heard.result
+      c.hear-heard.ensures.after c.hear-heard.ensures.heard c.hear-heard.ensures.goes_on)
       _ m _ _ _ m (c.obey.ensures m),
 )
