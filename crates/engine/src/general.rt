@@ -37,9 +37,9 @@ impl Engine {
         ensures { result ≡ holder_now (view self.now.state) (view self.now.state).line }
     {
         match self.state.line {
-            Line::Held(slot) => Some(Holder {
-                slot,
-                pointer: self.slot(slot).current,
+            Line::Held(k) => Some(Holder {
+                slot: k.get(),
+                pointer: self.slot(k).current,
             }),
             _ => None,
         }

@@ -82,7 +82,7 @@ impl Engine {
             ..slot
         };
         self.keep(Held { k, slot: connected });
-        Answer::Told(Some(k))
+        Answer::Told(Some(k.get()))
     }
 
     // The first slot that is away, tagged or not, and of this unit.

@@ -73,11 +73,11 @@ impl Engine {
             (Some(Heard::Reject), None) => self.hold(held),
             (Some(Heard::Complete), Some(_)) => {
                 self.leave(held, State::Finished(Outcome::Done));
-                return Answer::Finished(held.k);
+                return Answer::Finished(held.k.get());
             }
             _ => return self.reject(bus, held),
         }
-        Answer::Told(Some(held.k))
+        Answer::Told(Some(held.k.get()))
     }
 
     // A message that is not obeyed: MESSAGE REJECT.
@@ -87,7 +87,7 @@ impl Engine {
     {
         let _ = bus.speak(&Word::MessageReject.bytes());
         self.hold(held);
-        Answer::Told(Some(held.k))
+        Answer::Told(Some(held.k.get()))
     }
 }
 

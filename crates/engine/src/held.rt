@@ -49,7 +49,7 @@ impl Held {
             layer,
             shown,
             holder: Some(Holder {
-                slot: self.k,
+                slot: self.k.get(),
                 pointer: self.slot.current,
             }),
         })
@@ -92,7 +92,7 @@ impl Engine {
             },
             Shown::MessageOut => {
                 let _ = bus.speak(&Word::NoOperation.bytes());
-                Answer::Told(Some(held.k))
+                Answer::Told(Some(held.k.get()))
             }
             Shown::Free => self.dropped(held),
             _ => self.violation(bus, shown),
@@ -156,7 +156,7 @@ impl Engine {
         ensures after { view self.new.state ≡ advance_by (view self.old.state) held.now.k (entry_of held.now.slot) }
     {
         self.point(held, held.slot.current + 1);
-        Answer::Moved(held.k)
+        Answer::Moved(held.k.get())
     }
 
     // COMMAND, once.
@@ -176,7 +176,7 @@ impl Engine {
             k: held.k,
             slot: sent,
         });
-        Answer::Told(Some(held.k))
+        Answer::Told(Some(held.k.get()))
     }
 
     // STATUS, where none has come.
@@ -193,7 +193,7 @@ impl Engine {
             k: held.k,
             slot: told,
         });
-        Answer::Told(Some(held.k))
+        Answer::Told(Some(held.k.get()))
     }
 }
 

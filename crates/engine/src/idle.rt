@@ -61,16 +61,16 @@ impl Engine {
                     ..slot
                 };
                 self.unqueue(k, connected, Line::Held(k));
-                Answer::Selected(k)
+                Answer::Selected(k.get())
             }
-            Ok(Selection::Lost) => Answer::Lost(k),
+            Ok(Selection::Lost) => Answer::Lost(k.get()),
             Ok(Selection::Absent) => {
                 let finished = Slot {
                     state: State::Finished(Outcome::Absent),
                     ..slot
                 };
                 self.unqueue(k, finished, Line::Idle);
-                Answer::Finished(k)
+                Answer::Finished(k.get())
             }
             Err(_) => self.violation(bus, Shown::Free),
         }

@@ -2,7 +2,6 @@ ghost use Rattle.std.specs.Prelude.{◌≡◌};
 ghost use Rattle.bus.specs.Kinds.{kind_of, byte_shown};
 ghost use Rattle.slots.specs.Numbers.{layer_number, answer_number, answer_slot, end_number, end_slot, fault_slot, fault_pointer, byte_number};
 
-use crate::number::SlotNumber;
 use crate::slot::Outcome;
 use bus::Shown;
 
@@ -18,7 +17,7 @@ pub enum Layer {
 /// The slot that holds the line, with its current pointer.
 #[derive(Clone, Copy, PartialEq, Eq, Debug)]
 pub struct Holder {
-    pub slot: SlotNumber,
+    pub slot: u8,
     pub pointer: u32,
 }
 
@@ -35,17 +34,17 @@ pub struct Fault {
 pub enum Answer {
     /// There is nothing to select.
     Idle,
-    Waited(Option<SlotNumber>),
+    Waited(Option<u8>),
     /// The selection was lost.
-    Lost(SlotNumber),
-    Selected(SlotNumber),
+    Lost(u8),
+    Selected(u8),
     /// A target was let retake the line.
     Accepted,
     /// A data byte was moved.
-    Moved(SlotNumber),
-    Finished(SlotNumber),
+    Moved(u8),
+    Finished(u8),
     /// Everything else that is listed.
-    Told(Option<SlotNumber>),
+    Told(Option<u8>),
     Fault(Fault),
 }
 
@@ -53,7 +52,7 @@ pub enum Answer {
 #[derive(Clone, Copy, PartialEq, Eq, Debug)]
 pub enum End {
     Spent,
-    Finished(SlotNumber),
+    Finished(u8),
     Fault(Fault),
 }
 
@@ -94,7 +93,7 @@ impl Fault {
     pub fn slot(self) -> u8
         ensures { result ≡ fault_slot self }
     {
-        self.holder.map_or(0, |holder| holder.slot.get())
+        self.holder.map_or(0, |holder| holder.slot)
     }
 
     /// Its current pointer, 0 for none.
@@ -147,11 +146,11 @@ impl Answer {
     {
         match self {
             Answer::Idle | Answer::Accepted => 0,
-            Answer::Waited(slot) | Answer::Told(slot) => slot.map_or(0, SlotNumber::get),
+            Answer::Waited(slot) | Answer::Told(slot) => slot.unwrap_or(0),
             Answer::Lost(slot)
             | Answer::Selected(slot)
             | Answer::Moved(slot)
-            | Answer::Finished(slot) => slot.get(),
+            | Answer::Finished(slot) => slot,
             Answer::Fault(fault) => fault.slot(),
         }
     }
@@ -176,7 +175,7 @@ impl End {
     {
         match self {
             End::Spent => 0,
-            End::Finished(slot) => slot.get(),
+            End::Finished(slot) => slot,
             End::Fault(fault) => fault.slot(),
         }
     }

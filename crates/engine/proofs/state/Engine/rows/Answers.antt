@@ -3,7 +3,6 @@ use Rattle.slots.specs.declared.answer.End.{End}
 use Rattle.table.specs.Calls.{PlaysRun, is_end}
 use Rattle.table.specs.View.{view}
 use Rattle.engine.proofs.Steps.{reached_first, reached_last, reached_next, reached_end}
-use Rattle.engine.proofs.state.Engine.rows.Goals.{else-loop-made-test, then-loop-made-test+in_default+else-made-allowance}
 use Rattle.engine.proofs.state.Engine.rows.Goals as goal
 
 pub loop-made-init : goal.loop-made-init
@@ -23,11 +22,11 @@ loop-made-preserved g c = (
 )
 
 pub returns : goal.returns
-returns g c = elim c.loop-made-test.branch [
-  | else-loop-made-test w ↦ rw (w.self-is, w.bus-is, w.memory-is)
-      (reached_last (λ b. (g.B.Bus.means b).shown) g.B.Bus.did c.args.allowance _ _ _ c.loop-made.made _ _ _ (let a = w.loop-made-test.false in let e = c.loop-made.invariant.0 in omega (arith, a, e)) c.loop-made.invariant.1)
-  | then-loop-made-test+in_default+else-made-allowance w ↦ rw (w.self-is, w.bus-is, w.memory-is)
-      (reached_last (λ b. (g.B.Bus.means b).shown) g.B.Bus.did c.args.allowance _ _ _ (c.loop-made.made + 1) _ _ _ (omega arith)
-      (reached_next (λ b. (g.B.Bus.means b).shown) g.B.Bus.did c.args.allowance _ _ _ c.loop-made.made _ _ _ w.row.result _ _ _ c.loop-made.auto.made w.loop-made-test.true c.loop-made.invariant.1 w.row.ensures
-      w.in_default.ensures))
-]
+returns g c =
+    reached_last (λ b. (g.B.Bus.means b).shown) g.B.Bus.did c.args.allowance _ _ _ c.loop-made.made _ _ _ (let a = c.loop-made-test.false in let e = c.loop-made.invariant.0 in omega (arith, a, e)) c.loop-made.invariant.1
+
+pub returns-in_default : goal.returns-in_default
+returns-in_default g c =
+    reached_last (λ b. (g.B.Bus.means b).shown) g.B.Bus.did c.args.allowance _ _ _ (c.loop-made.made + 1) _ _ _ (omega arith)
+    (reached_next (λ b. (g.B.Bus.means b).shown) g.B.Bus.did c.args.allowance _ _ _ c.loop-made.made _ _ _ c.row.result _ _ _ c.loop-made.auto.made c.loop-made-test.true c.loop-made.invariant.1 c.row.ensures
+    c.in_default.ensures)
