@@ -63,37 +63,22 @@ pub inside_message : (e : Engine) (k : ℕ) (x : Entry) (bs : List ℕ) (s : Sho
 inside_message e k x [] s n = absurd (n refl)
 inside_message e k x (b ∷ bs) s n = refl
 
--- what a message comes to says nothing of the line
-pub by_heard_line : (e : Engine) (l : TableLine) (k : ℕ) (x : Entry) (bs : List ℕ) (h : Option Heard) (o : Option ℕ) → by_heard (set_line l e) k x bs h o ≡ by_heard e k x bs h o
-by_heard_line e l k x bs None o = refl
-by_heard_line e l k x bs (Some Save) None = refl
-by_heard_line e l k x bs (Some Restore) None = refl
-by_heard_line e l k x bs (Some Disconnect) None = refl
-by_heard_line e l k x bs (Some Reject) None = refl
-by_heard_line e l k x bs (Some Complete) None = refl
-by_heard_line e l k x bs (Some Other) None = refl
-by_heard_line e l k x bs (Some Complete) (Some t) = refl
-by_heard_line e l k x bs (Some Save) (Some t) = refl
-by_heard_line e l k x bs (Some Restore) (Some t) = refl
-by_heard_line e l k x bs (Some Disconnect) (Some t) = refl
-by_heard_line e l k x bs (Some Reject) (Some t) = refl
-by_heard_line e l k x bs (Some Other) (Some t) = refl
-
--- of its bytes nothing is kept once it is whole
-pub by_heard_bytes : (e : Engine) (k : ℕ) (x : Entry) (bs bs' : List ℕ) (h : Option Heard) (o : Option ℕ) → (IsNone h → bs ≡ bs') → by_heard e k x bs h o ≡ by_heard e k x bs' h o
-by_heard_bytes e k x bs bs' None o r = ap (λ (bs : List ℕ). by_heard e k x bs None o) (r refl)
-by_heard_bytes e k x bs bs' (Some Save) None r = refl
-by_heard_bytes e k x bs bs' (Some Restore) None r = refl
-by_heard_bytes e k x bs bs' (Some Disconnect) None r = refl
-by_heard_bytes e k x bs bs' (Some Reject) None r = refl
-by_heard_bytes e k x bs bs' (Some Complete) None r = refl
-by_heard_bytes e k x bs bs' (Some Other) None r = refl
-by_heard_bytes e k x bs bs' (Some Complete) (Some t) r = refl
-by_heard_bytes e k x bs bs' (Some Save) (Some t) r = refl
-by_heard_bytes e k x bs bs' (Some Restore) (Some t) r = refl
-by_heard_bytes e k x bs bs' (Some Disconnect) (Some t) r = refl
-by_heard_bytes e k x bs bs' (Some Reject) (Some t) r = refl
-by_heard_bytes e k x bs bs' (Some Other) (Some t) r = refl
+-- what a message comes to says nothing of the line, and of its bytes only while it goes on
+pub by_heard_same : (e : Engine) (l : TableLine) (k : ℕ) (x : Entry) (bs bs' : List ℕ) (h : Option Heard) (o : Option ℕ) → (IsNone h → bs ≡ bs')
+    → by_heard (set_line l e) k x bs h o ≡ by_heard e k x bs' h o
+by_heard_same e l k x bs bs' None o r = ap (λ (bs : List ℕ). by_heard e k x bs None o) (r refl)
+by_heard_same e l k x bs bs' (Some Save) None r = refl
+by_heard_same e l k x bs bs' (Some Restore) None r = refl
+by_heard_same e l k x bs bs' (Some Disconnect) None r = refl
+by_heard_same e l k x bs bs' (Some Reject) None r = refl
+by_heard_same e l k x bs bs' (Some Complete) None r = refl
+by_heard_same e l k x bs bs' (Some Other) None r = refl
+by_heard_same e l k x bs bs' (Some Complete) (Some t) r = refl
+by_heard_same e l k x bs bs' (Some Save) (Some t) r = refl
+by_heard_same e l k x bs bs' (Some Restore) (Some t) r = refl
+by_heard_same e l k x bs bs' (Some Disconnect) (Some t) r = refl
+by_heard_same e l k x bs bs' (Some Reject) (Some t) r = refl
+by_heard_same e l k x bs bs' (Some Other) (Some t) r = refl
 
 -- the call that selects slot k, which is x
 pub selects : (s : Slots) (k : ℕ) (x : Slot) → numbered k ≡ true → x ≡ slot_at s.slots k → (g : Greeting) (bs : List ℕ) → bs ≡ greeting_bytes g.leave g.lun g.tag

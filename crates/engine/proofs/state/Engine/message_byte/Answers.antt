@@ -5,7 +5,7 @@ use Rattle.table.specs.Engine.{Engine, Entry, held, set_line}
 use Rattle.table.specs.Table.{heard_of, by_heard}
 use Rattle.table.specs.View.{view, entry_of}
 use Rattle.table.proofs.Meanings.{plays_as}
-use Rattle.engine.proofs.Rows.{by_heard_line, by_heard_bytes}
+use Rattle.engine.proofs.Rows.{by_heard_same}
 use Rattle.engine.proofs.state.Engine.message_byte.Goals as goal
 
 -- what the message comes to, said of the engine before its last byte
@@ -13,8 +13,7 @@ said : (e e' : Engine) (k : ℕ) (x : Entry) (bs bs' : List ℕ) (h : Option Hea
     → by_heard e' k x bs' h x.status ≡ by_heard e k x bs (heard_of (message_of bs)) x.status
 said e e' k x bs bs' h p q r =
     ap (λ (e : Engine). by_heard e k x bs' h x.status) p
-    ∙ by_heard_line e (held k bs') k x bs' h x.status
-    ∙ by_heard_bytes e k x bs' bs h x.status r
+    ∙ by_heard_same e (held k bs') k x bs' bs h x.status r
     ∙ ap (λ (h : Option Heard). by_heard e k x bs h x.status) q
 
 pub returns : goal.returns
